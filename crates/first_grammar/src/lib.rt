@@ -1,0 +1,7 @@
+//! The first grammar: `fn main() -> unit { .. }` with statements that print numbers.
+#![tactic(auto)]
+
+mod programs;
+mod words;
+
+pub use words::{Word, Words};
