@@ -1,2 +1,4 @@
 pub mod Blocks
 pub mod Decided
+pub mod Parts
+pub mod Counts

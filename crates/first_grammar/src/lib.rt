@@ -1,6 +1,7 @@
 //! The first grammar: `fn main() -> unit { .. }` with statements that print numbers.
 #![tactic(auto)]
 
+mod building;
 mod programs;
 mod words;
 
