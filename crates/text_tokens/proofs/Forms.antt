@@ -1,16 +1,15 @@
 -- Which words have a form, and how a form's first byte decides it.
-use Rattle.std.proofs.Common.{◌≡◌, ℕ, zero, suc, ◌+◌, ◌-◌, ◌<◌, ◌≤◌, ◌⊎◌, inl, inr, Bool, true, false, not, ◌&&◌, ◌||◌, ◌==◌, nat_le, nat_lt, if◌then◌else◌, Option, Some, None, List, [], ◌∷◌, ◌++◌, length, take, refl, sym, ◌∙◌, ap, subst, arith, rules}
-use Rattle.std.proofs.lemmas.Bool.{or_cases, and_parts, and_from, or_left, or_right, not-true, false_from_ne_true, both_ways, cases_Bool}
+use Rattle.std.proofs.Common.{◌≡◌, ℕ, inl, inr, Bool, true, false, not, ◌&&◌, ◌==◌, nat_le, if◌then◌else◌, Option, Some, None, List, [], ◌∷◌, length, refl, arith}
+use Rattle.std.proofs.lemmas.Bool.{or_cases, and_parts, and_from, not-true, false_from_ne_true, both_ways}
 use Rattle.std.proofs.lemmas.Grind.{common_steps}
-use Rattle.std.proofs.lemmas.List.Folds.{list_all-append}
 use Rattle.std.proofs.lemmas.Slice.Eq.{bytes_eq-Decides}
-use Rattle.std.specs.Char.{is_ascii_digit, is_ascii_alphabetic, is_ascii_alphanumeric, is_ascii_graphic}
+use Rattle.std.specs.Char.{is_ascii_digit, is_ascii_graphic}
 use Rattle.std.specs.List.{list_all, list_any}
 use Rattle.std.specs.Str.{bytes_eq}
 use Rattle.text_tokens.specs.declared.TokenKind.{TokenKind}
 use Rattle.text_tokens.specs.declared.TokenKind.TheVariants.{Name, Number, Keyword, Mark}
-use Rattle.text_tokens.specs.Word.{keywords, marks, begins_name, continues_name, is_spelled_as_name, is_digits, is_keyword, is_mark, value_of, HasForm, IsLongest}
-use Rattle.text_tokens.specs.Text.{is_separator, is_line_end, is_in_line}
+use Rattle.text_tokens.specs.Word.{keywords, marks, begins_name, continues_name, is_spelled_as_name, is_digits, is_keyword, is_mark, value_of, HasForm}
+use Rattle.text_tokens.specs.Text.{is_separator, is_in_line}
 
 -- what each word of a table passes, a word of the table passes
 pub member : (p : List ℕ → Bool) (words : List (List ℕ)) (w : List ℕ) → list_all p words ≡ true → list_any (bytes_eq w) words ≡ true → p w ≡ true
@@ -18,8 +17,8 @@ member p [] w all found = cc
 member p (k ∷ ks) w all found =
     let parts = and_parts (p k) (list_all p ks) all in
     elim (or_cases (bytes_eq w k) (list_any (bytes_eq w) ks) found) [
-      inl e ↦ (let same = (bytes_eq-Decides w k).0 e in rw same parts.0)
-    | inr later ↦ member p ks w parts.1 later
+      | inl e ↦ (let same = (bytes_eq-Decides w k).0 e in rw same parts.0)
+      | inr later ↦ member p ks w parts.1 later
     ]
 
 -- the same of all bytes
@@ -117,7 +116,7 @@ spelled-plain [] e = refl
 spelled-plain (b ∷ w) e =
     let parts = and_parts (begins_name b) (list_all continues_name w) e in
     and_from (is_plain b) (list_all is_plain w) (name_byte-plain b (first_byte-continues b parts.0))
-      (all_imply continues_name is_plain name_byte-plain w parts.1)
+    (all_imply continues_name is_plain name_byte-plain w parts.1)
 
 digits-plain : (w : List ℕ) → is_digits w ≡ true → list_all is_plain w ≡ true
 digits-plain [] e = refl
@@ -149,7 +148,7 @@ digits-no_name [] e = cc
 digits-no_name (b ∷ w) e =
     let digit = (and_parts (is_ascii_digit b) (list_all is_ascii_digit w) e).0 in
     false_from_ne_true (is_spelled_as_name (b ∷ w)) (λ h.
-      both_ways (begins_name b) (digit-begins_no_name b digit) (and_parts (begins_name b) (list_all continues_name w) h).0)
+    both_ways (begins_name b) (digit-begins_no_name b digit) (and_parts (begins_name b) (list_all continues_name w) h).0)
 
 no_name-no_keyword : (w : List ℕ) → is_spelled_as_name w ≡ false → is_keyword w ≡ false
 no_name-no_keyword w e = false_from_ne_true (is_keyword w) (λ h. both_ways (is_spelled_as_name w) e (keyword-spelled w h))

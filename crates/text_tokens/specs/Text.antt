@@ -1,5 +1,5 @@
 -- How a text is cut into separators, comments and tokens, and its first fault.
-use Rattle.std.specs.Prelude.{◌≡◌, ℕ, ◌+◌, ◌<◌, Bool, not, ◌||◌, ◌==◌, List, [], ◌∷◌, ◌++◌, length, IsTrue}
+use Rattle.std.specs.Prelude.{◌≡◌, ℕ, ◌+◌, ◌<◌, ◌≤◌, Bool, not, ◌||◌, ◌==◌, List, [], ◌∷◌, ◌++◌, length, slice_range, IsTrue}
 use Rattle.std.specs.Char.{is_ascii_graphic}
 use Rattle.std.specs.List.{list_all, count_by, suffix_len}
 use Rattle.chan_syntax.specs.declared.identifiers.Span.{Span}
@@ -61,7 +61,7 @@ span_behind front word =
       start = length front;
       stop = length front + length word;
       line = 1 + count_by is_line_end front;
-      column = 1 + suffix_len is_in_line front
+      column = 1 + suffix_len is_in_line front;
     }
 
 -- a token with its bytes and its place
@@ -82,6 +82,21 @@ tokens_behind front (token kind word ∷ ps) =
 abbrev pub HasTokens : List ℕ → List Token → Type 0
 HasTokens text tokens =
     (pieces : List Piece) × (text ≡ text_of pieces) × IsCutBefore pieces [] × (tokens ≡ tokens_behind [] pieces)
+
+-- the bytes of the text at the span
+abbrev pub text_at : List ℕ → Span → List ℕ
+text_at text span = slice_range text span.start span.stop
+
+-- the text has this token at its span, and it is the longest one there
+abbrev pub StandsIn : List ℕ → Token → Type 0
+StandsIn text t =
+    (front back : List ℕ) × (text ≡ front ++ t.text ++ back) × IsToken t.kind t.text × IsLongest t.text back
+    × (t.span ≡ span_behind front t.text)
+
+-- each token stands behind the one before it, the first at this place or behind it
+abbrev pub AreInOrder : ℕ → List Token → Type 0
+AreInOrder at [] = Unit {0}
+AreInOrder at (t ∷ ts) = (at ≤ t.span.start) × (t.span.start < t.span.stop) × AreInOrder t.span.stop ts
 
 -- ---- faults
 
