@@ -1,5 +1,5 @@
 -- How many numbers a program of the first grammar prints, and how great they are.
-use Rattle.std.proofs.Common.{◌≡◌, ℕ, suc, ◌+◌, ◌<◌, ◌≤◌, ◌^◌, Bool, true, false, List, [], ◌∷◌, ◌++◌, length, map, if◌then◌else◌, codes, IsTrue, refl, sym, ap, ◌∙◌, subst, arith, length-append}
+use Rattle.std.proofs.Common.{◌≡◌, ℕ, ◌+◌, ◌<◌, ◌≤◌, ◌^◌, Bool, true, false, List, [], ◌∷◌, ◌++◌, length, map, if◌then◌else◌, codes, refl, sym, ap, ◌∙◌, subst, arith, length-append}
 use Rattle.std.proofs.lemmas.List.{length-map}
 use Rattle.std.specs.Str.{bytes_eq}
 use Rattle.std.specs.List.{AllByRecursion, flat_map}
@@ -9,7 +9,7 @@ use Rattle.text_tokens.specs.Word.{HasForm, IsWithinLimit}
 use Rattle.text_tokens.specs.Text.{Token, Piece, separator, comment, token, text_of, IsCutBefore, tokens_behind, HasTokens}
 use Rattle.first_grammar.specs.declared.words.Word.{Word}
 use Rattle.first_grammar.specs.declared.words.Word.TheVariants as word
-use Rattle.first_grammar.specs.Grammar.{word_spelled, word_as, word_of, header, statement, footer, program_of, Reads}
+use Rattle.first_grammar.specs.Grammar.{word_spelled, word_as, word_of, statement, footer, program_of, Reads}
 use Rattle.first_grammar.specs.Test.{number_in}
 use Rattle.first_grammar.specs.Printing.{ArePlain}
 
@@ -66,10 +66,15 @@ no_number false false false false false false false false false false true = ref
 no_number false false false false false false false false false false false = refl
 
 small_spelled : (text : List ℕ) → IsSmall (word_spelled text)
-small_spelled text = record { below = omega (arith, no_number
-    (bytes_eq text (codes "fn")) (bytes_eq text (codes "main")) (bytes_eq text (codes "unit")) (bytes_eq text (codes "print"))
-    (bytes_eq text (codes "ret")) (bytes_eq text (codes "(")) (bytes_eq text (codes ")")) (bytes_eq text (codes "{"))
-    (bytes_eq text (codes "}")) (bytes_eq text (codes ";")) (bytes_eq text (codes "->"))) }
+small_spelled text = record {
+  below = omega (
+    arith,
+    no_number
+        (bytes_eq text (codes "fn")) (bytes_eq text (codes "main")) (bytes_eq text (codes "unit")) (bytes_eq text (codes "print"))
+        (bytes_eq text (codes "ret")) (bytes_eq text (codes "(")) (bytes_eq text (codes ")")) (bytes_eq text (codes "{"))
+        (bytes_eq text (codes "}")) (bytes_eq text (codes ";")) (bytes_eq text (codes "->")),
+  );
+}
 
 small_word : (k : TokenKind) (text : List ℕ) → IsWithinLimit k → IsSmall (word_as k text)
 small_word kind.Name text le = small_spelled text

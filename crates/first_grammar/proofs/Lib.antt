@@ -2,3 +2,4 @@ pub mod Blocks
 pub mod Decided
 pub mod Parts
 pub mod Counts
+pub mod Readings
