@@ -6,7 +6,7 @@ use Rattle.chan_base.specs.Names.{name_text}
 use Rattle.core_language.specs.Names.{Name}
 use Rattle.core_language.specs.Computing.{StuckWhy}
 use Rattle.core_language.specs.Computing as why
-use Rattle.core_language.specs.Rounds.{Entry, prints_of}
+use Rattle.core_language.specs.Rounds.{Entry, printed, prints_of}
 use Rattle.core_language.specs.Endings.{Ending}
 use Rattle.core_language.specs.Endings as ending
 
@@ -36,19 +36,29 @@ why_text why.NoChannel = codes "no channel"
 why_text why.Absurd = codes "absurd"
 why_text why.Deep = codes "deep"
 
--- the names, each after a space
+-- a space and the name
+abbrev pub after_space : Name → List ℕ
+after_space p = 32 ∷ name_text p
+
 abbrev pub names_text : List Name → List ℕ
-names_text names = flat_map (λ n. 32 ∷ name_text n) names
+names_text names = flat_map after_space names
+
+abbrev pub ending_text : Ending → List ℕ
+ending_text ending.Finished = codes "finished"
+ending_text ending.Rounds = codes "stopped rounds"
+ending_text (ending.OutOfRange p) = codes "stopped range" ++ after_space p
+ending_text (ending.TooDeep p) = codes "stopped depth" ++ after_space p
+ending_text (ending.Stuck p why) = codes "stuck" ++ after_space p ++ 32 ∷ why_text why
+ending_text (ending.Deadlocked names) = codes "deadlocked" ++ names_text names
+ending_text (ending.Leaked names) = codes "leaked" ++ names_text names
 
 abbrev pub ending_line : Ending → List ℕ
-ending_line ending.Finished = line (codes "finished")
-ending_line ending.Rounds = line (codes "stopped rounds")
-ending_line (ending.OutOfRange p) = line (codes "stopped range " ++ name_text p)
-ending_line (ending.TooDeep p) = line (codes "stopped depth " ++ name_text p)
-ending_line (ending.Stuck p why) = line (codes "stuck " ++ name_text p ++ 32 ∷ why_text why)
-ending_line (ending.Deadlocked names) = line (codes "deadlocked" ++ names_text names)
-ending_line (ending.Leaked names) = line (codes "leaked" ++ names_text names)
+ending_line ending = line (ending_text ending)
 
 -- what a run writes: its prints, and how it ended
 abbrev pub run_text : List Entry → Ending → List ℕ
 run_text entries ending = print_lines (prints_of entries) ++ ending_line ending
+
+-- what an entry adds to that
+abbrev pub entry_lines : Entry → List ℕ
+entry_lines entry = print_lines (printed entry.event)
