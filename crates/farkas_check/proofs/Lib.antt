@@ -1,0 +1,5 @@
+pub mod FaultLists
+pub mod Sums
+pub mod Widths
+pub mod Validity
+pub mod Forms
