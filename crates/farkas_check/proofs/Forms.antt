@@ -1,47 +1,14 @@
 -- A valid certificate shows that the claim follows.
-use Rattle.std.proofs.Common.{◌≡◌, ℕ, zero, suc, ◌<◌, ◌≤◌, ℤ, pos, negsuc, neg_ℤ, ◌+ℤ◌, ◌-ℤ◌, ◌*ℤ◌, ◌≤ℤ◌, List, [], ◌∷◌, length, All, slice_get, unwrap_or, refl, ap, sym, ◌∙◌, arith, mul-suc}
+use Rattle.std.proofs.Common.{◌≡◌, ℕ, zero, suc, ◌<◌, ◌≤◌, ℤ, pos, ◌+ℤ◌, ◌*ℤ◌, ◌≤ℤ◌, List, [], ◌∷◌, length, All, slice_get, unwrap_or, refl, ap, sym, ◌∙◌, arith}
 use Rattle.std.proofs.lemmas.Int.{ints}
 use Rattle.std.proofs.Math.IntN as Z
 use Rattle.farkas_check.specs.declared.cert.Row.{Row}
 use Rattle.farkas_check.specs.declared.cert.Mention.{Mention}
-use Rattle.farkas_check.specs.declared.cert.Cert.{Cert}
 use Rattle.farkas_check.specs.Rows.{coefficient, linear_part, value_at, Entails, zero_row, hypothesis, width}
 use Rattle.farkas_check.specs.Certificates.{combined, claimed_at, combined_at, constant_left, IsValid}
+use Rattle.farkas_check.proofs.Products.{distribute, distribute_right, times_times, times_at_most_zero, below_divisor}
 use Rattle.farkas_check.proofs.Sums.{combined-cong, hypothesis-at}
 use Rattle.farkas_check.proofs.Widths.{widest_from-least, hypothesis-within}
-
--- products of integers
-distribute : (k a b : ℤ) → k *ℤ (a +ℤ b) ≡ (k *ℤ a) +ℤ (k *ℤ b)
-distribute (pos zero) a b = omega (arith, ints)
-distribute (pos (suc n)) a b = omega (arith, ints, Z.suc_ℤ-*ℤ (pos n) (a +ℤ b), Z.suc_ℤ-*ℤ (pos n) a, Z.suc_ℤ-*ℤ (pos n) b, distribute (pos n) a b)
-distribute (negsuc zero) a b = omega (arith, ints)
-distribute (negsuc (suc n)) a b = omega (arith, ints, Z.pred_ℤ-*ℤ (negsuc n) (a +ℤ b), Z.pred_ℤ-*ℤ (negsuc n) a, Z.pred_ℤ-*ℤ (negsuc n) b, distribute (negsuc n) a b)
-
-distribute_right : (a b k : ℤ) → (a +ℤ b) *ℤ k ≡ (a *ℤ k) +ℤ (b *ℤ k)
-distribute_right a b k = Z.*ℤ_comm (a +ℤ b) k ∙ omega (arith, ints, distribute k a b, Z.*ℤ_comm a k, Z.*ℤ_comm b k)
-
-neg_times : (x k : ℤ) → neg_ℤ x *ℤ k ≡ neg_ℤ (x *ℤ k)
-neg_times x k = omega (arith, ints, distribute_right x (neg_ℤ x) k, Z.zero-*ℤ k, ap (λ y. y *ℤ k) (Z.+ℤ_invr x))
-
-times_pos : (n : ℕ) (a b : ℤ) → (pos n *ℤ a) *ℤ b ≡ pos n *ℤ (a *ℤ b)
-times_pos zero a b = ap (λ y. y *ℤ b) (Z.zero-*ℤ a) ∙ Z.zero-*ℤ b ∙ sym (Z.zero-*ℤ (a *ℤ b))
-times_pos (suc n) a b = rw (Z.suc_ℤ-*ℤ (pos n) a) (omega (arith, ints, Z.suc_ℤ-*ℤ (pos n) (a *ℤ b), distribute_right (pos n *ℤ a) a b, times_pos n a b))
-
-times_times : (k a b : ℤ) → (k *ℤ a) *ℤ b ≡ k *ℤ (a *ℤ b)
-times_times (pos n) a b = times_pos n a b
-times_times (negsuc n) a b = ap (λ y. y *ℤ b) (neg_times (pos (suc n)) a) ∙ neg_times (pos (suc n) *ℤ a) b ∙ ap neg_ℤ (times_pos (suc n) a b) ∙ sym (neg_times (pos (suc n)) (a *ℤ b))
-
-times_at_most_zero : (a b : ℤ) → pos 0 ≤ℤ a → b ≤ℤ pos 0 → (a *ℤ b) ≤ℤ pos 0
-times_at_most_zero (pos n) (pos zero) h l = omega (arith, ints, Z.*ℤ-zero (pos n))
-times_at_most_zero (pos n) (pos (suc k)) h l = absurd (omega (arith, ints))
-times_at_most_zero (pos n) (negsuc k) h l = omega (arith, ints)
-times_at_most_zero (negsuc n) b h l = absurd (omega (arith, ints))
-
--- a multiple of d that is at most d - 1 is a multiple by at most 0
-below_divisor : (d : ℕ) (x : ℤ) → 1 ≤ d → (pos d *ℤ x) ≤ℤ (pos d -ℤ pos 1) → x ≤ℤ pos 0
-below_divisor d (pos zero) h l = omega (arith, ints)
-below_divisor d (pos (suc n)) h l = absurd (omega (arith, ints, Z.pos-*ℤ-pos d (suc n), mul-suc d n))
-below_divisor d (negsuc n) h l = omega (arith, ints)
 
 -- the coefficients of the first n variables times their values, summed
 abbrev sum_below : (ℕ → ℤ) → ℕ → (ℕ → ℤ) → ℤ
@@ -92,21 +59,21 @@ combined_at_most_zero number hyps (m ∷ ms) indexed weights each =
     omega (arith, ints, times_at_most_zero m.factor (number (hypothesis hyps m.index)) weight low)
 
 -- the identity between linear forms gives one between numbers
-claimed_value : (cert : Cert) (hyps : List Row) (claim : Row) (values : ℕ → ℤ) → IsValid cert hyps claim → pos cert.divisor *ℤ value_at values claim ≡ combined (value_at values) hyps cert.mentions +ℤ constant_left cert hyps claim
-claimed_value cert hyps claim values valid =
+claimed_value : (divisor : ℕ) (mentions : List Mention) (hyps : List Row) (claim : Row) (values : ℕ → ℤ) → IsValid divisor mentions hyps claim → pos divisor *ℤ value_at values claim ≡ combined (value_at values) hyps mentions +ℤ constant_left divisor mentions hyps claim
+claimed_value divisor mentions hyps claim values valid =
     let n = width hyps claim in
-    let d = pos cert.divisor in
+    let d = pos divisor in
     let claim_part : linear_part values claim.coefficients ≡ sum_below values n (coefficient claim) = linear_part-below values claim.coefficients n (widest_from-least (length claim.coefficients) hyps) in
     let scaled = sum_below-scale values n d (coefficient claim) in
-    let same = sum_below-cong values n (claimed_at cert claim) (combined_at cert hyps) valid.equal in
-    let summed = sum_below-combined values n hyps cert.mentions in
-    let parts : combined (λ row. sum_below values n (coefficient row)) hyps cert.mentions ≡ combined (λ row. linear_part values row.coefficients) hyps cert.mentions =
-    combined-cong (λ row. sum_below values n (coefficient row)) (λ row. linear_part values row.coefficients) hyps cert.mentions (λ index. sym (linear_part-below values (hypothesis hyps index).coefficients n (hypothesis-within (length claim.coefficients) hyps index))) in
-    let values_added = combined-add (λ row. linear_part values row.coefficients) (λ row. row.constant) hyps cert.mentions in
-    let linear : d *ℤ linear_part values claim.coefficients ≡ combined (λ row. linear_part values row.coefficients) hyps cert.mentions = ap (λ x. d *ℤ x) claim_part ∙ sym scaled ∙ same ∙ summed ∙ parts in
+    let same = sum_below-cong values n (claimed_at divisor claim) (combined_at mentions hyps) valid.equal in
+    let summed = sum_below-combined values n hyps mentions in
+    let parts : combined (λ row. sum_below values n (coefficient row)) hyps mentions ≡ combined (λ row. linear_part values row.coefficients) hyps mentions =
+    combined-cong (λ row. sum_below values n (coefficient row)) (λ row. linear_part values row.coefficients) hyps mentions (λ index. sym (linear_part-below values (hypothesis hyps index).coefficients n (hypothesis-within (length claim.coefficients) hyps index))) in
+    let values_added = combined-add (λ row. linear_part values row.coefficients) (λ row. row.constant) hyps mentions in
+    let linear : d *ℤ linear_part values claim.coefficients ≡ combined (λ row. linear_part values row.coefficients) hyps mentions = ap (λ x. d *ℤ x) claim_part ∙ sym scaled ∙ same ∙ summed ∙ parts in
     omega (arith, ints, linear, values_added, distribute d (linear_part values claim.coefficients) claim.constant)
 
-pub entailed : (cert : Cert) (hyps : List Row) (claim : Row) → 1 ≤ cert.divisor → IsValid cert hyps claim → Entails hyps claim
-entailed cert hyps claim positive valid values each =
-    below_divisor cert.divisor (value_at values claim) positive
-    (omega (arith, ints, valid.constant, claimed_value cert hyps claim values valid, combined_at_most_zero (value_at values) hyps cert.mentions valid.indexed valid.non_negative each))
+pub entailed : (divisor : ℕ) (mentions : List Mention) (hyps : List Row) (claim : Row) → 1 ≤ divisor → IsValid divisor mentions hyps claim → Entails hyps claim
+entailed divisor mentions hyps claim positive valid values each =
+    below_divisor divisor (value_at values claim) positive
+    (omega (arith, ints, valid.constant, claimed_value divisor mentions hyps claim values valid, combined_at_most_zero (value_at values) hyps mentions valid.indexed valid.non_negative each))

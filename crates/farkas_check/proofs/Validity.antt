@@ -7,7 +7,6 @@ use Rattle.std.specs.List.{range_with_len}
 use Rattle.std.specs.Ordering.{int_eq}
 use Rattle.farkas_check.specs.declared.cert.Row.{Row}
 use Rattle.farkas_check.specs.declared.cert.Mention.{Mention}
-use Rattle.farkas_check.specs.declared.cert.Cert.{Cert}
 use Rattle.farkas_check.specs.declared.cert.CertFault.{CertFault}
 use Rattle.farkas_check.specs.declared.cert.CertFault.TheVariants.{BadIndex, Negative, NotEqual, Constant}
 use Rattle.farkas_check.specs.Rows.{coefficient, width}
@@ -68,58 +67,58 @@ not_false false e = cc
 same_test : (l r : ℤ) → not (int_eq l r) ≡ false → l ≡ r
 same_test l r e = (Decides-int_eq l r).0 (not_false (int_eq l r) e)
 
-pub equal_variable : (cert : Cert) (hyps : List Row) (claim : Row) (variable : ℕ) → claimed_at cert claim variable ≡ combined_at cert hyps variable → faults_at_variable cert hyps claim variable ≡ []
-equal_variable cert hyps claim variable e = fault_if_false (not (int_eq (claimed_at cert claim variable) (combined_at cert hyps variable))) _ (same (claimed_at cert claim variable) (combined_at cert hyps variable) e)
+pub equal_variable : (divisor : ℕ) (mentions : List Mention) (hyps : List Row) (claim : Row) (variable : ℕ) → claimed_at divisor claim variable ≡ combined_at mentions hyps variable → faults_at_variable divisor mentions hyps claim variable ≡ []
+equal_variable divisor mentions hyps claim variable e = fault_if_false (not (int_eq (claimed_at divisor claim variable) (combined_at mentions hyps variable))) _ (same (claimed_at divisor claim variable) (combined_at mentions hyps variable) e)
 
-pub unequal_variable : (cert : Cert) (hyps : List Row) (claim : Row) (variable : ℕ) (left right : ℤ) → left ≡ claimed_at cert claim variable → right ≡ combined_at cert hyps variable → left ≢ right → verdict (faults_at_variable cert hyps claim variable) ≡ Err (NotEqual variable left right)
-unequal_variable cert hyps claim variable left right l r h = rw (← l, ← r, differs left right h)
+pub unequal_variable : (divisor : ℕ) (mentions : List Mention) (hyps : List Row) (claim : Row) (variable : ℕ) (left right : ℤ) → left ≡ claimed_at divisor claim variable → right ≡ combined_at mentions hyps variable → left ≢ right → verdict (faults_at_variable divisor mentions hyps claim variable) ≡ Err (NotEqual variable left right)
+unequal_variable divisor mentions hyps claim variable left right l r h = rw (← l, ← r, differs left right h)
 
-equal_at : (cert : Cert) (hyps : List Row) (claim : Row) (variable : ℕ) → faults_at_variable cert hyps claim variable ≡ [] → claimed_at cert claim variable ≡ combined_at cert hyps variable
-equal_at cert hyps claim variable e = same_test (claimed_at cert claim variable) (combined_at cert hyps variable) (test_false (not (int_eq (claimed_at cert claim variable) (combined_at cert hyps variable))) (NotEqual variable (claimed_at cert claim variable) (combined_at cert hyps variable)) e)
+equal_at : (divisor : ℕ) (mentions : List Mention) (hyps : List Row) (claim : Row) (variable : ℕ) → faults_at_variable divisor mentions hyps claim variable ≡ [] → claimed_at divisor claim variable ≡ combined_at mentions hyps variable
+equal_at divisor mentions hyps claim variable e = same_test (claimed_at divisor claim variable) (combined_at mentions hyps variable) (test_false (not (int_eq (claimed_at divisor claim variable) (combined_at mentions hyps variable))) (NotEqual variable (claimed_at divisor claim variable) (combined_at mentions hyps variable)) e)
 
-equal_past : (cert : Cert) (hyps : List Row) (claim : Row) (variable : ℕ) → width hyps claim ≤ variable → claimed_at cert claim variable ≡ combined_at cert hyps variable
-equal_past cert hyps claim variable h =
-    rw (claim-past hyps claim variable h) (Z.*ℤ-zero (pos cert.divisor) ∙ sym (combined-zero (λ row. coefficient row variable) hyps cert.mentions (hypothesis-past hyps claim variable h)))
+equal_past : (divisor : ℕ) (mentions : List Mention) (hyps : List Row) (claim : Row) (variable : ℕ) → width hyps claim ≤ variable → claimed_at divisor claim variable ≡ combined_at mentions hyps variable
+equal_past divisor mentions hyps claim variable h =
+    rw (claim-past hyps claim variable h) (Z.*ℤ-zero (pos divisor) ∙ sym (combined-zero (λ row. coefficient row variable) hyps mentions (hypothesis-past hyps claim variable h)))
 
 -- the constant
-pub close_constant : (cert : Cert) (hyps : List Row) (claim : Row) → constant_left cert hyps claim ≤ℤ (pos cert.divisor -ℤ pos 1) → constant_faults cert hyps claim ≡ []
-close_constant cert hyps claim h = fault_if_false (int_lt (pos cert.divisor -ℤ pos 1) (constant_left cert hyps claim)) _ (at_least_int (pos cert.divisor -ℤ pos 1) (constant_left cert hyps claim) h)
+pub close_constant : (divisor : ℕ) (mentions : List Mention) (hyps : List Row) (claim : Row) → constant_left divisor mentions hyps claim ≤ℤ (pos divisor -ℤ pos 1) → constant_faults divisor mentions hyps claim ≡ []
+close_constant divisor mentions hyps claim h = fault_if_false (int_lt (pos divisor -ℤ pos 1) (constant_left divisor mentions hyps claim)) _ (at_least_int (pos divisor -ℤ pos 1) (constant_left divisor mentions hyps claim) h)
 
-pub far_constant : (cert : Cert) (hyps : List Row) (claim : Row) (left : ℤ) → left ≡ constant_left cert hyps claim → (pos cert.divisor -ℤ pos 1) <ℤ left → verdict (constant_faults cert hyps claim) ≡ Err (Constant left cert.divisor)
-far_constant cert hyps claim left e h = rw (← e, below_int (pos cert.divisor -ℤ pos 1) left h)
+pub far_constant : (divisor : ℕ) (mentions : List Mention) (hyps : List Row) (claim : Row) (left : ℤ) → left ≡ constant_left divisor mentions hyps claim → (pos divisor -ℤ pos 1) <ℤ left → verdict (constant_faults divisor mentions hyps claim) ≡ Err (Constant left divisor)
+far_constant divisor mentions hyps claim left e h = rw (← e, below_int (pos divisor -ℤ pos 1) left h)
 
-constant_at : (cert : Cert) (hyps : List Row) (claim : Row) → constant_faults cert hyps claim ≡ [] → constant_left cert hyps claim ≤ℤ (pos cert.divisor -ℤ pos 1)
-constant_at cert hyps claim e = at_least_test (pos cert.divisor -ℤ pos 1) (constant_left cert hyps claim) (test_false (int_lt (pos cert.divisor -ℤ pos 1) (constant_left cert hyps claim)) (Constant (constant_left cert hyps claim) cert.divisor) e)
+constant_at : (divisor : ℕ) (mentions : List Mention) (hyps : List Row) (claim : Row) → constant_faults divisor mentions hyps claim ≡ [] → constant_left divisor mentions hyps claim ≤ℤ (pos divisor -ℤ pos 1)
+constant_at divisor mentions hyps claim e = at_least_test (pos divisor -ℤ pos 1) (constant_left divisor mentions hyps claim) (test_false (int_lt (pos divisor -ℤ pos 1) (constant_left divisor mentions hyps claim)) (Constant (constant_left divisor mentions hyps claim) divisor) e)
 
 -- the whole certificate
-valid_if_none : (cert : Cert) (hyps : List Row) (claim : Row) → faults cert hyps claim ≡ [] → IsValid cert hyps claim
-valid_if_none cert hyps claim none =
-    let of_mentions : flat_map (faults_of_mention hyps) cert.mentions ≡ [] = empty_left _ _ (empty_left _ (constant_faults cert hyps claim) none) in
-    let of_variables : flat_map (faults_at_variable cert hyps claim) (range_with_len 0 (width hyps claim)) ≡ [] = empty_right (flat_map (faults_of_mention hyps) cert.mentions) _ (empty_left _ (constant_faults cert hyps claim) none) in
+valid_if_none : (divisor : ℕ) (mentions : List Mention) (hyps : List Row) (claim : Row) → faults divisor mentions hyps claim ≡ [] → IsValid divisor mentions hyps claim
+valid_if_none divisor mentions hyps claim none =
+    let of_mentions : flat_map (faults_of_mention hyps) mentions ≡ [] = empty_left _ _ (empty_left _ (constant_faults divisor mentions hyps claim) none) in
+    let of_variables : flat_map (faults_at_variable divisor mentions hyps claim) (range_with_len 0 (width hyps claim)) ≡ [] = empty_right (flat_map (faults_of_mention hyps) mentions) _ (empty_left _ (constant_faults divisor mentions hyps claim) none) in
     record {
-      indexed = indexed_all hyps cert.mentions of_mentions;
-      non_negative = λ k d h. non_negative_mention hyps (get_or cert.mentions k d) (none_at (faults_of_mention hyps) cert.mentions k d h of_mentions);
+      indexed = indexed_all hyps mentions of_mentions;
+      non_negative = λ k d h. non_negative_mention hyps (get_or mentions k d) (none_at (faults_of_mention hyps) mentions k d h of_mentions);
       equal = λ variable. equal_everywhere of_variables variable (within variable (width hyps claim));
-      constant = constant_at cert hyps claim (empty_right (flat_map (faults_of_mention hyps) cert.mentions ++ flat_map (faults_at_variable cert hyps claim) (range_with_len 0 (width hyps claim))) _ none);
+      constant = constant_at divisor mentions hyps claim (empty_right (flat_map (faults_of_mention hyps) mentions ++ flat_map (faults_at_variable divisor mentions hyps claim) (range_with_len 0 (width hyps claim))) _ none);
     }
   where
     within : (a b : ℕ) → (a < b) ⊎ (b ≤ a)
     within a b = grind arith
 
-    equal_everywhere : flat_map (faults_at_variable cert hyps claim) (range_with_len 0 (width hyps claim)) ≡ [] → (variable : ℕ) → (variable < width hyps claim) ⊎ (width hyps claim ≤ variable) → claimed_at cert claim variable ≡ combined_at cert hyps variable
-    equal_everywhere none variable (inl h) = equal_at cert hyps claim variable (none_below (faults_at_variable cert hyps claim) (width hyps claim) variable h none)
-    equal_everywhere none variable (inr h) = equal_past cert hyps claim variable h
+    equal_everywhere : flat_map (faults_at_variable divisor mentions hyps claim) (range_with_len 0 (width hyps claim)) ≡ [] → (variable : ℕ) → (variable < width hyps claim) ⊎ (width hyps claim ≤ variable) → claimed_at divisor claim variable ≡ combined_at mentions hyps variable
+    equal_everywhere none variable (inl h) = equal_at divisor mentions hyps claim variable (none_below (faults_at_variable divisor mentions hyps claim) (width hyps claim) variable h none)
+    equal_everywhere none variable (inr h) = equal_past divisor mentions hyps claim variable h
 
-none_if_valid : (cert : Cert) (hyps : List Row) (claim : Row) → IsValid cert hyps claim → faults cert hyps claim ≡ []
-none_if_valid cert hyps claim valid =
+none_if_valid : (divisor : ℕ) (mentions : List Mention) (hyps : List Row) (claim : Row) → IsValid divisor mentions hyps claim → faults divisor mentions hyps claim ≡ []
+none_if_valid divisor mentions hyps claim valid =
     empty_both _ _
     (empty_both _ _
-    (none_of_all (faults_of_mention hyps) cert.mentions (λ k d h. sound_mention hyps (get_or cert.mentions k d) (valid.indexed k d h) (valid.non_negative k d h)))
-    (none_of_all_below (faults_at_variable cert hyps claim) (width hyps claim) (λ variable h. equal_variable cert hyps claim variable (valid.equal variable))))
-    (close_constant cert hyps claim valid.constant)
+    (none_of_all (faults_of_mention hyps) mentions (λ k d h. sound_mention hyps (get_or mentions k d) (valid.indexed k d h) (valid.non_negative k d h)))
+    (none_of_all_below (faults_at_variable divisor mentions hyps claim) (width hyps claim) (λ variable h. equal_variable divisor mentions hyps claim variable (valid.equal variable))))
+    (close_constant divisor mentions hyps claim valid.constant)
 
-pub valid-ok : (cert : Cert) (hyps : List Row) (claim : Row) → IsOk (verdict (faults cert hyps claim)) ↔ IsValid cert hyps claim
-valid-ok cert hyps claim = (λ h. valid_if_none cert hyps claim (none_if_ok (faults cert hyps claim) h), λ valid. ok_if_none (faults cert hyps claim) (none_if_valid cert hyps claim valid))
+pub valid-ok : (divisor : ℕ) (mentions : List Mention) (hyps : List Row) (claim : Row) → IsOk (verdict (faults divisor mentions hyps claim)) ↔ IsValid divisor mentions hyps claim
+valid-ok divisor mentions hyps claim = (λ h. valid_if_none divisor mentions hyps claim (none_if_ok (faults divisor mentions hyps claim) h), λ valid. ok_if_none (faults divisor mentions hyps claim) (none_if_valid divisor mentions hyps claim valid))
 
 pub indexed_if_ok : (hyps : List Row) (ms items : List Mention) (result : Result (Unit {0}) CertFault) (unit : Unit {0}) → items ≡ ms → result ≡ verdict (flat_map (faults_of_mention hyps) items) → result ≡ Ok unit → All (λ m. m.index < length hyps) ms
 indexed_if_ok hyps ms items result unit same made ok =

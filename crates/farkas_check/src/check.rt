@@ -1,8 +1,8 @@
 //! The test of a certificate.
-ghost use Rattle.std.specs.Prelude.{◌≡◌, ◌<◌, ◌≤◌, ◌^◌, pos, ◌*ℤ◌, ◌↔◌, length, unsigned_abs, All, IsOk};
+ghost use Rattle.std.specs.Prelude.{◌≡◌, ◌<◌, ◌≤◌, ◌^◌, pos, ◌*ℤ◌, ◌↔◌, length, unsigned_abs, All, IsOk, IfErr};
 ghost use Rattle.farkas_check.specs.Rows.{hypothesis, width, IsNarrow, Entails};
 ghost use Rattle.farkas_check.specs.Places.{number_at};
-ghost use Rattle.farkas_check.specs.Certificates.{combined, mention_faults, coefficient_faults, constant_faults, faults, verdict, IsValid};
+ghost use Rattle.farkas_check.specs.Certificates.{combined, mention_faults, coefficient_faults, constant_faults, faults, verdict, IsValid, IsWithin};
 
 use crate::cert::{Cert, CertFault, Mention, Row, Rows};
 
@@ -85,7 +85,7 @@ fn check_mentions(mentions: &[Mention], hyps: &[Row]) -> Result<(), CertFault>
 fn check_coefficients(cert: &Cert, hyps: &[Row], claim: &Row) -> Result<(), CertFault>
     requires indexed { All (λ m. m.index < length hyps.now) cert.now.mentions }
     requires narrow { width hyps.now claim.now < 2 ^ 32 }
-    ensures { result ≡ verdict (coefficient_faults cert.now hyps.now claim.now) }
+    ensures { result ≡ verdict (coefficient_faults cert.now.divisor cert.now.mentions hyps.now claim.now) }
 {
     for variable in 0..widest(hyps, claim) {
         let left = claimed(cert, claim, Place::Variable(variable));
@@ -103,7 +103,7 @@ fn check_coefficients(cert: &Cert, hyps: &[Row], claim: &Row) -> Result<(), Cert
 
 fn check_constant(cert: &Cert, hyps: &[Row], claim: &Row) -> Result<(), CertFault>
     requires { All (λ m. m.index < length hyps.now) cert.now.mentions }
-    ensures { result ≡ verdict (constant_faults cert.now hyps.now claim.now) }
+    ensures { result ≡ verdict (constant_faults cert.now.divisor cert.now.mentions hyps.now claim.now) }
 {
     let constant = claimed(cert, claim, Place::Constant) - combine(cert, hyps, Place::Constant);
     if constant > i128::from(cert.divisor) - 1 {
@@ -117,7 +117,7 @@ fn check_constant(cert: &Cert, hyps: &[Row], claim: &Row) -> Result<(), CertFaul
 
 fn first_fault(cert: &Cert, hyps: &[Row], claim: &Row) -> Result<(), CertFault>
     requires { width hyps.now claim.now < 2 ^ 32 }
-    ensures { result ≡ verdict (faults cert.now hyps.now claim.now) }
+    ensures { result ≡ verdict (faults cert.now.divisor cert.now.mentions hyps.now claim.now) }
 {
     check_mentions(cert.mentions.as_slice(), hyps)?;
     check_coefficients(cert, hyps, claim)?;
@@ -128,8 +128,9 @@ fn first_fault(cert: &Cert, hyps: &[Row], claim: &Row) -> Result<(), CertFault>
 pub fn holds(cert: &Cert, hyps: &Rows, claim: &Row) -> Result<(), CertFault>
     requires hypotheses { All IsNarrow hyps.now }
     requires claim { IsNarrow claim.now }
-    ensures verdict { result ≡ verdict (faults cert.now hyps.now claim.now) }
-    ensures valid { IsOk result ↔ IsValid cert.now hyps.now claim.now }
+    ensures verdict { result ≡ verdict (faults cert.now.divisor cert.now.mentions hyps.now claim.now) }
+    ensures valid { IsOk result ↔ IsValid cert.now.divisor cert.now.mentions hyps.now claim.now }
+    ensures within { IfErr result (IsWithin (width hyps.now claim.now)) }
     ensures entails { IsOk result → Entails hyps.now claim.now }
 {
     first_fault(cert, hyps.as_slice(), claim)

@@ -19,11 +19,11 @@ pub returns-then-left-right : goal.returns-then-left-right
 returns-then-left-right c =
     let within : c.loop-variable.variable < width c.args.hyps.now c.args.claim.now = omega arith in
     let unequal : c.claimed-left.result ≢ c.combine-right.result = λ same. c.if-left-right.true (ap (of_z w128) same) in
-    let here = unequal_variable c.args.cert.now c.args.hyps.now c.args.claim.now c.loop-variable.variable c.claimed-left.result c.combine-right.result c.claimed-left.ensures.value c.combine-right.ensures.value unequal in
-    rw (left_kept c.before, right_kept c.before) (sym (first_below (faults_at_variable c.args.cert.now c.args.hyps.now c.args.claim.now) c.loop-variable.variable _ _ within c.loop-variable.invariant here))
+    let here = unequal_variable c.args.cert.now.divisor c.args.cert.now.mentions c.args.hyps.now c.args.claim.now c.loop-variable.variable c.claimed-left.result c.combine-right.result c.claimed-left.ensures.value c.combine-right.ensures.value unequal in
+    rw (left_kept c.before, right_kept c.before) (sym (first_below (faults_at_variable c.args.cert.now.divisor c.args.cert.now.mentions c.args.hyps.now c.args.claim.now) c.loop-variable.variable _ _ within c.loop-variable.invariant here))
 
 pub loop-variable-preserved : goal.loop-variable-preserved
 loop-variable-preserved c =
     let same : c.claimed-left.result ≡ c.combine-right.result = sym (left_kept c.before) ∙ ap (to_z w128) c.if-left-right.false ∙ right_kept c.before in
-    let equal : claimed_at c.args.cert.now c.args.claim.now c.loop-variable.variable ≡ combined_at c.args.cert.now c.args.hyps.now c.loop-variable.variable = sym c.claimed-left.ensures.value ∙ same ∙ c.combine-right.ensures.value in
-    rw add-one (none_more_below (faults_at_variable c.args.cert.now c.args.hyps.now c.args.claim.now) c.loop-variable.variable c.loop-variable.invariant (equal_variable c.args.cert.now c.args.hyps.now c.args.claim.now c.loop-variable.variable equal))
+    let equal : claimed_at c.args.cert.now.divisor c.args.claim.now c.loop-variable.variable ≡ combined_at c.args.cert.now.mentions c.args.hyps.now c.loop-variable.variable = sym c.claimed-left.ensures.value ∙ same ∙ c.combine-right.ensures.value in
+    rw add-one (none_more_below (faults_at_variable c.args.cert.now.divisor c.args.cert.now.mentions c.args.hyps.now c.args.claim.now) c.loop-variable.variable c.loop-variable.invariant (equal_variable c.args.cert.now.divisor c.args.cert.now.mentions c.args.hyps.now c.args.claim.now c.loop-variable.variable equal))
