@@ -1,0 +1,47 @@
+//! Linear terms, and limits between them.
+use crate::identifiers::{Ident, Idents, Span, Spans};
+use sqlite_items::Items;
+
+pub type TermParts = Items<Part>;
+
+pub type Terms = Items<Term>;
+
+pub type Limits = Items<Limit>;
+
+/// A product of a sum: a factor, times the value of a name where there is one, taken away from the
+/// sum where it is negative.
+#[derive(Debug, Drop)]
+pub struct Part {
+    pub negative: bool,
+    pub factor: i64,
+    pub name: Option<Ident>,
+    pub name_span: Option<Span>,
+}
+
+#[derive(Debug, Drop)]
+pub struct Term {
+    pub parts: TermParts,
+    pub span: Span,
+}
+
+#[derive(Clone, Copy, Debug, PartialEq, Eq)]
+pub enum Relation {
+    AtMost,
+    Less,
+    Same,
+}
+
+#[derive(Debug, Drop)]
+pub struct Limit {
+    pub left: Term,
+    pub relation: Relation,
+    pub right: Term,
+}
+
+/// Integer variables that are bound, and the limits that they keep.
+#[derive(Debug, Drop)]
+pub struct Bound {
+    pub names: Idents,
+    pub names_spans: Spans,
+    pub limits: Limits,
+}
