@@ -11,3 +11,4 @@ pub mod Steps
 pub mod Schedules
 pub mod Rounds
 pub mod Endings
+pub mod Laws

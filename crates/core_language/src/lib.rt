@@ -1,5 +1,9 @@
 //! The core language: programs, values, configurations, steps, rounds and endings, as definitions.
 #![tactic(auto)]
 
-/// The order of names puts a task before those that it forks.
-pub fn names() {}
+ghost use Rattle.core_language.specs.Laws.{HaltsOrSteps};
+
+/// The limits of the machine change no step: it makes the step that has no limits, or halts.
+pub fn limits()
+    ensures { HaltsOrSteps }
+{}
