@@ -1,5 +1,5 @@
 -- The step of a task whose entry in the map is written.
-use Rattle.std.proofs.Common.{◌≡◌, List, [], ◌∷◌, cond, Bool, true, false, Option, Some, None, Ordering, Less, Equal, Greater, refl, sym, ap, ◌∙◌, subst}
+use Rattle.std.proofs.Common.{◌≡◌, List, [], ◌∷◌, cond, Bool, true, false, Option, Some, None, Ordering, Less, Equal, Greater, ◌⊎◌, inl, inr, refl, sym, ap, ◌∙◌, subst}
 use Rattle.std.proofs.lemmas.Map.Lookups.{exact_bytes}
 use Rattle.std.specs.Option.{option_map}
 use Rattle.std.specs.Ordering.{nat_cmp, eq_by_cmp, is_eq}
@@ -8,10 +8,12 @@ use Rattle.std.specs.Map.{lookup}
 use Rattle.std.specs.BTreeMap.{BTreeMap, Updates, is_at, get as looked_up}
 use Rattle.core_language.specs.Names.{Name, NameMap}
 use Rattle.core_language.specs.Values.{Value}
-use Rattle.core_language.specs.Computing.{machine}
+use Rattle.core_language.specs.Programs.{Program}
+use Rattle.core_language.specs.Computing.{machine, Halt}
 use Rattle.core_language.specs.Configurations as core
 use Rattle.core_language.specs.Acts.{act_of}
-use Rattle.core_language.specs.Steps.{Step, IsAbsent, effect, step_at, machine_step}
+use Rattle.core_language.specs.Steps.{Step, IsAbsent, IsHalted, effect, step_at, machine_step, step}
+use Rattle.core_language.proofs.Halting.{halts_or_steps}
 use Rattle.chan_syntax.specs.declared.nodes.Parts.{Parts}
 use Rattle.chan_syntax.specs.Bodies.{program_of}
 use Rattle.chan_machine.specs.declared.tasks.Task.{Task}
@@ -19,7 +21,7 @@ use Rattle.chan_machine.specs.declared.events.Stepped.{Stepped}
 use Rattle.chan_machine.specs.declared.events.Stepped.TheVariants as stepped
 use Rattle.chan_machine.specs.declared.configurations.Put.{Put}
 use Rattle.chan_machine.specs.Reading.{map_of, task_of, place_of, step_of, prints_of}
-use Rattle.chan_machine.specs.Fits.{Makes, moved_to}
+use Rattle.chan_machine.specs.Fits.{IsHalt, Makes, moved_to}
 use Rattle.chan_machine.proofs.Maps.{get-map_of, put-map_of}
 
 -- the configuration that the maps and the prints are read as
@@ -55,6 +57,21 @@ module _ (program : Parts) (channels : NameMap (Option Value)) where
       by stepped.Absent = refl
       by (stepped.Halts why) = refl
       by (stepped.Stuck why) = refl
+
+-- a step of the machine that is no halt is the step without limits
+pub unless_halted : (program : Program) (C D : core.Config) (name : Name) (s : Stepped) → machine_step program C name ≡ step_of D s
+    → IsHalt s ⊎ (step program C name ≡ step_of D s)
+unless_halted program C D name s is = by (halts_or_steps program C name) s is
+  where
+    by : ((why : Halt) × (machine_step program C name ≡ IsHalted why)) ⊎ (machine_step program C name ≡ step program C name) → (s : Stepped)
+        → machine_step program C name ≡ step_of D s → IsHalt s ⊎ (step program C name ≡ step_of D s)
+    by (inr same) s is = inr (sym same ∙ is)
+    by (inl halt) (stepped.Halts why) is = inl tt
+    by (inl halt) (stepped.Moved event) is = let t = sym halt.1 ∙ is in cc
+    by (inl halt) (stepped.Waits channel) is = let t = sym halt.1 ∙ is in cc
+    by (inl halt) stepped.Ended is = let t = sym halt.1 ∙ is in cc
+    by (inl halt) stepped.Absent is = let t = sym halt.1 ∙ is in cc
+    by (inl halt) (stepped.Stuck why) is = let t = sym halt.1 ∙ is in cc
 
 equal_from : (o : Ordering) → is_eq o ≡ true → o ≡ Equal
 equal_from Less e = cc

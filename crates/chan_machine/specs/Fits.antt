@@ -44,6 +44,14 @@ is_moved stepped.Absent = false
 is_moved (stepped.Halts why) = false
 is_moved (stepped.Stuck why) = false
 
+abbrev pub IsHalt : Stepped → Type 0
+IsHalt (stepped.Halts why) = Unit {0}
+IsHalt (stepped.Moved event) = ⊥
+IsHalt (stepped.Waits channel) = ⊥
+IsHalt stepped.Ended = ⊥
+IsHalt stepped.Absent = ⊥
+IsHalt (stepped.Stuck why) = ⊥
+
 -- the configuration with the task and the prints that a move leaves
 abbrev pub moved_to : Stepped → core.Config → Name → core.Task → List Put → core.Config
 moved_to (stepped.Moved event) C p task prints = record C { tasks = insert C.tasks p task; prints = prints_of prints }

@@ -1,13 +1,13 @@
 //! Steps of one task.
-ghost use Rattle.std.specs.Prelude.{◌≡◌, List, ℕ, ◌<◌, ◌^◌, pos, false, true, [], ◌∷◌, None, IfOk, OnErr, OnOk};
+ghost use Rattle.std.specs.Prelude.{◌≡◌, ◌⊎◌, List, ℕ, ◌<◌, ◌^◌, pos, false, true, [], ◌∷◌, None, IfOk, OnErr, OnOk};
 ghost use Rattle.core_language.specs.Computing.{Env, Done, machine, sum_of};
 ghost use Rattle.core_language.specs.Configurations.{start as start_of};
-ghost use Rattle.core_language.specs.Steps.{machine_step};
+ghost use Rattle.core_language.specs.Steps.{machine_step, step as step_without_limits};
 ghost use Rattle.chan_syntax.specs.Formed.{IsNumber, IsFirstForm};
 ghost use Rattle.chan_syntax.specs.Reading.{term_of};
 ghost use Rattle.chan_syntax.specs.Bodies.{program_of};
 ghost use Rattle.chan_machine.specs.Reading.{config_of, step_of};
-ghost use Rattle.chan_machine.specs.Fits.{Fits, FramesFit, Makes, is_moved};
+ghost use Rattle.chan_machine.specs.Fits.{Fits, FramesFit, IsHalt, Makes, is_moved};
 
 use crate::configurations::{Config, Put, Puts};
 use crate::events::{Event, Stepped};
@@ -91,6 +91,7 @@ pub fn step(
 ) -> Result<Stepped, Memory>
     requires fits { Fits program.now config.old }
     ensures value { IfOk result (λ s. machine_step (program_of program.now) (config_of program.now config.old) name.now ≡ step_of (config_of program.now config.new) s) }
+    ensures limits { IfOk result (λ s. IsHalt s ⊎ (step_without_limits (program_of program.now) (config_of program.now config.old) name.now ≡ step_of (config_of program.now config.new) s)) }
     ensures still { IfOk result (λ s. is_moved s ≡ false → config_of program.now config.new ≡ config_of program.now config.old) }
     ensures memory { OnErr result (config_of program.now config.new ≡ config_of program.now config.old) }
     ensures fits { Fits program.now config.new }
