@@ -3,3 +3,4 @@ pub mod Decided
 pub mod Parts
 pub mod Counts
 pub mod Readings
+pub mod TokenWords

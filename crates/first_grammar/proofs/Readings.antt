@@ -1,10 +1,11 @@
 -- Each text is one program of the first grammar, or none.
-use Rattle.std.proofs.Common.{◌≡◌, ℕ, List, map, Some, sym, ap, ◌∙◌}
+use Rattle.std.proofs.Common.{IfSome, IfNone, Option, None, ◌≡◌, ℕ, List, map, Some, sym, ap, ◌∙◌}
+use Rattle.text_tokens.specs.Text.{Token, HasTokens}
 use Rattle.text_tokens.proofs.Cuts.{one_list}
 use Rattle.first_grammar.specs.declared.words.Word.{Word}
-use Rattle.first_grammar.specs.Grammar.{word_of, program_of, Reads}
+use Rattle.first_grammar.specs.Grammar.{word_of, program_of, Reads, IsNoProgram}
 use Rattle.first_grammar.specs.Test.{numbers_of}
-use Rattle.first_grammar.proofs.Decided.{numbers_of-whole}
+use Rattle.first_grammar.proofs.Decided.{numbers_of-reads, numbers_of-whole}
 
 -- the numbers of a program are those that its words tell
 pub numbers_told : (ws : List Word) (ns : List ℕ) → ws ≡ program_of ns → numbers_of ws ≡ Some ns
@@ -14,4 +15,18 @@ pub one_reading : (text : List ℕ) (ns ms : List ℕ) → Reads text ns → Rea
 one_reading text ns ms (tokens, has, are) (others, has_too, are_too) =
     let same : numbers_of (map word_of tokens) ≡ Some ms = ap (λ ts. numbers_of (map word_of ts)) (one_list text tokens others has has_too) ∙ numbers_told (map word_of others) ms are_too in
     let both : Some ns ≡ Some ms = sym (numbers_told (map word_of tokens) ns are) ∙ same in
+    cc
+
+-- ---- what the test for words says of the text
+
+pub told_some : (text : List ℕ) (ts : List Token) (o : Option (List ℕ)) → HasTokens text ts → o ≡ numbers_of (map word_of ts) → IfSome o (Reads text)
+told_some text ts None has is = tt
+told_some text ts (Some ns) has is = (ts, has, numbers_of-reads (map word_of ts) ns (sym is))
+
+pub told_none : (text : List ℕ) (ts : List Token) (o : Option (List ℕ)) → HasTokens text ts → o ≡ numbers_of (map word_of ts) → IfNone o (IsNoProgram text)
+told_none text ts (Some ns) has is = tt
+told_none text ts None has is = λ ns reads.
+    let (others, has_too, are) = reads in
+    let told : numbers_of (map word_of ts) ≡ Some ns = ap (λ us. numbers_of (map word_of us)) (one_list text ts others has has_too) ∙ numbers_told (map word_of others) ns are in
+    let both : None ≡ Some ns = is ∙ told in
     cc

@@ -1,7 +1,7 @@
 //! The program that prints numbers, as nodes.
 ghost use Rattle.std.specs.Prelude.{◌≡◌, ◌<◌, ◌^◌, ◌+◌, [], length, IfOk};
 ghost use Rattle.chan_syntax.specs.Bodies.{program_of};
-ghost use Rattle.first_grammar.specs.Printing.{program_printing, main_func, parts_printing, nodes_from, ArePlain};
+ghost use Rattle.first_grammar.specs.Printing.{program_printing as printing, main_func, parts_printing, nodes_from, ArePlain};
 
 use chan_base::Memory;
 use chan_syntax::{
@@ -99,10 +99,10 @@ fn parts(alloc: Global, numbers: &[u64]) -> Result<Parts, Memory>
 }
 
 /// The program that prints the numbers.
-pub(crate) fn program(alloc: Global, numbers: &[u64]) -> Result<Program, Memory>
+pub(crate) fn program_printing(alloc: Global, numbers: &[u64]) -> Result<Program, Memory>
     requires few { length numbers.now + 1 < 2 ^ 32 }
     requires plain { ArePlain numbers.now }
-    ensures { IfOk result (λ program. program_of program ≡ program_printing numbers.now) }
+    ensures { IfOk result (λ program. program_of program ≡ printing numbers.now) }
 {
     let parts = parts(alloc, numbers)?;
     match Program::build(parts) {

@@ -8,7 +8,7 @@ mod building;
 mod programs;
 mod words;
 
-pub use words::{Word, Words};
+pub use programs::program;
 
 /// No text is read in two ways.
 pub fn laws()

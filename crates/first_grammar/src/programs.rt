@@ -1,10 +1,16 @@
-//! Which words are a program, and the numbers that it prints.
-ghost use Rattle.std.specs.Prelude.{◌≡◌, [], if◌then◌else◌, Some, None, IfOk};
+//! Which texts are a program, and the program that they are.
+ghost use Rattle.std.specs.Prelude.{◌≡◌, ◌<◌, ℕ, List, [], if◌then◌else◌, length, Some, None, IfOk, IfSome, IfNone};
 ghost use Rattle.std.specs.Option.{option_copied};
+ghost use Rattle.chan_syntax.specs.Bodies.{program_of};
+ghost use Rattle.first_grammar.specs.Grammar.{Reads, IsNoProgram};
+ghost use Rattle.first_grammar.specs.Printing.{program_printing};
 ghost use Rattle.first_grammar.specs.Test.{strip as words_after, number_in, is_statement, last, block, numbers_of};
 
-use crate::words::Word;
+use crate::building::program_printing as built;
+use crate::words::{Word, words};
 use chan_base::Memory;
+use chan_lexer::{LexFault, tokens};
+use chan_syntax::Program;
 use sqlite_items::Items;
 use std::alloc::Global;
 
@@ -68,11 +74,45 @@ fn statements(alloc: Global, words: &[Word]) -> Result<Option<Numbers>, Memory>
 }
 
 /// The numbers that a program with these words prints.
-pub(crate) fn program_numbers(alloc: Global, words: &[Word]) -> Result<Option<Numbers>, Memory>
+fn program_numbers(alloc: Global, words: &[Word]) -> Result<Option<Numbers>, Memory>
     ensures { IfOk result (λ numbers. numbers ≡ numbers_of words.now) }
 {
     match strip(&[1, 2, 6, 7, 11, 3, 8], words) {
         None => Ok(None),
         Some(rest) => statements(alloc, rest),
+    }
+}
+
+/// The numbers that the program prints, where the text is one.
+fn numbers(alloc: Global, text: &[u8]) -> Result<Option<Numbers>, Memory>
+    requires { length text.now < 4294967295 }
+    ensures some { IfOk result (λ r. IfSome r (Reads text.now)) }
+    ensures none { IfOk result (λ r. IfNone r (IsNoProgram text.now)) }
+{
+    match tokens(alloc, text) {
+        Ok(tokens) => {
+            let words = words(alloc, &tokens)?;
+            let numbers = program_numbers(alloc, words.as_slice())?;
+            Ok(numbers)
+        }
+        Err(LexFault::Memory) => Err(Memory),
+        Err(LexFault::BadByte(_)) => Ok(None),
+        Err(LexFault::BadToken(_)) => Ok(None),
+        Err(LexFault::NumberTooLarge(_)) => Ok(None),
+    }
+}
+
+/// The program that the text is, where it is one.
+pub fn program(alloc: Global, text: &[u8]) -> Result<Option<Program>, Memory>
+    requires { length text.now < 4294967295 }
+    ensures some { IfOk result (λ r. IfSome r (λ program. (numbers : List ℕ) × Reads text.now numbers × (program_of program ≡ program_printing numbers))) }
+    ensures none { IfOk result (λ r. IfNone r (IsNoProgram text.now)) }
+{
+    match numbers(alloc, text)? {
+        None => Ok(None),
+        Some(numbers) => {
+            let program = built(alloc, numbers.as_slice())?;
+            Ok(Some(program))
+        }
     }
 }

@@ -1,9 +1,14 @@
 //! The words of the first grammar.
-ghost use Rattle.std.specs.Prelude.{◌≡◌};
-ghost use Rattle.first_grammar.specs.Grammar.{word_spelled};
+ghost use Rattle.std.specs.Prelude.{◌≡◌, map, IfOk};
+ghost use Rattle.chan_lexer.specs.Spelled.{spelled_token};
+ghost use Rattle.chan_lexer.specs.Lexed.{tokens_of};
+ghost use Rattle.first_grammar.specs.Grammar.{word_spelled, word_of};
 ghost use Rattle.first_grammar.specs.Test.{kind};
 
+use chan_base::Memory;
+use chan_lexer::{Token, TokenKind, Tokens};
 use sqlite_items::Items;
+use std::alloc::Global;
 
 pub type Words = Items<Word>;
 
@@ -76,4 +81,33 @@ impl Word {
             Word::Other => 12,
         }
     }
+}
+
+/// The word that a token is.
+fn token_word(tokens: &Tokens, token: &Token) -> Word
+    ensures { result ≡ word_of (spelled_token tokens.now.source token.now) }
+{
+    match token.kind {
+        TokenKind::Number(value) => Word::Number(value),
+        TokenKind::Name | TokenKind::Keyword | TokenKind::Mark => Word::spelled(tokens.text(token)),
+    }
+}
+
+/// The words that tokens of this text are.
+fn listed_words(alloc: Global, tokens: &Tokens, list: &[Token]) -> Result<Words, Memory>
+    ensures { IfOk result (λ words. words ≡ map (λ t. word_of (spelled_token tokens.now.source t)) list.now) }
+{
+    let mut words = Items::new(alloc);
+    for token in list {
+        words.push(token_word(tokens, token))?;
+    }
+    Ok(words)
+}
+
+/// The words that the tokens are.
+pub(crate) fn words(alloc: Global, tokens: &Tokens) -> Result<Words, Memory>
+    ensures { IfOk result (λ words. words ≡ map word_of (tokens_of tokens.now)) }
+{
+    let words = listed_words(alloc, tokens, tokens.list().as_slice())?;
+    Ok(words)
 }

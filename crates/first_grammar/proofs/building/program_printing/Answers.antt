@@ -2,7 +2,7 @@ use Rattle.std.proofs.Common.{sym, ap, subst, ◌∙◌}
 use Rattle.chan_syntax.specs.Bodies.{program_of}
 use Rattle.chan_syntax.specs.Formed.{IsFirstForm}
 use Rattle.first_grammar.proofs.Parts.{first_form, program_of-printing}
-use Rattle.first_grammar.proofs.building.program.Goals as goal
+use Rattle.first_grammar.proofs.building.program_printing.Goals as goal
 
 pub build-requires : goal.build-requires
 build-requires c = subst IsFirstForm (sym c.in_ok-parts.ensures) (first_form c.args.numbers.now c.requires.few c.requires.plain)
