@@ -1,0 +1,5 @@
+//! Rows of words and inputs, with the outputs and statuses that the whole program has to give.
+#![tactic(auto)]
+
+#[cfg(test)]
+mod replays;

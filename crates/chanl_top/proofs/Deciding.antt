@@ -1,0 +1,101 @@
+-- The cases of the verdict, and what reading says of the bytes that were left.
+use Rattle.std.proofs.Common.{◌≡◌, ℕ, ◌+◌, ◌<◌, ◌≤◌, List, [], ◌++◌, length, codes, map, Option, Some, None, refl, sym, ap, ◌∙◌, subst, arith, inl, inr, ◌⊎◌, append-nil, length-append}
+use Rattle.std.specs.Io.KnownBytes.{Consumes, IsAtEnd, Appends}
+use Rattle.core_language.specs.Programs.{Program}
+use Rattle.core_language.specs.Rounds.{Run, Entry, run_of}
+use Rattle.core_language.specs.Endings.{Ending, ending_of}
+use Rattle.core_language.specs.Endings as ending
+use Rattle.chan_base.specs.Stream.{Rose, Takes}
+use Rattle.first_grammar.specs.Grammar.{Reads, IsNoProgram}
+use Rattle.first_grammar.specs.Printing.{program_printing}
+use Rattle.chanl_words.specs.declared.Command.TheVariants as command
+use Rattle.chanl_words.specs.Words.{Admits, IsUsage}
+use Rattle.chanl_lines.specs.Lines.{usage, run_text}
+use Rattle.chanl_top.specs.declared.status.Status.{Status}
+use Rattle.chanl_top.specs.declared.status.Status.TheVariants as status
+use Rattle.chanl_top.specs.declared.verdicts.Verdict.{Verdict}
+use Rattle.chanl_top.specs.Verdict.{refusal, longest, default_rounds, ending_status, ran, replayed, IsTextVerdict, IsReplayVerdict, IsVerdict}
+use Rattle.chanl_top.specs.Decided.{IsSettled, Decides, Finishes}
+
+-- all was read, so the bytes are those that were left
+all_read : (old new : Option (List ℕ)) (bytes all : List ℕ) → Consumes old new bytes → IsAtEnd new → old ≡ Some all → bytes ≡ all
+all_read None new bytes all took over is = cc
+all_read (Some xs) None bytes all took over is = absurd took
+all_read (Some xs) (Some ys) bytes all took over is =
+    let same : xs ≡ all = cc in
+    sym (append-nil bytes) ∙ ap (λ r. bytes ++ r) (sym over) ∙ sym took ∙ same
+
+-- more was taken than the limit, so that more was left
+many_read : (old new : Option (List ℕ)) (limit : ℕ) (all : List ℕ) → Takes old new (λ n. n ≡ limit + 1) → old ≡ Some all → limit < length all
+many_read None new limit all (bytes, took, long) is = cc
+many_read (Some xs) None limit all (bytes, took, long) is = absurd took
+many_read (Some xs) (Some ys) limit all (bytes, took, long) is =
+    let same : xs ≡ all = cc in
+    let count : length all ≡ length bytes + length ys = ap length (sym same ∙ took) ∙ length-append bytes ys in
+    omega arith
+
+-- ---- settled answers
+
+settled_ending : (e : Ending) → IsSettled (ending_status e)
+settled_ending ending.Finished = tt
+settled_ending ending.Rounds = tt
+settled_ending (ending.OutOfRange p) = tt
+settled_ending (ending.TooDeep p) = tt
+settled_ending (ending.Stuck p why) = tt
+settled_ending (ending.Deadlocked ps) = tt
+settled_ending (ending.Leaked cs) = tt
+
+settled_text : (text : List ℕ) (v : Verdict) → IsTextVerdict text v → IsSettled v.status
+settled_text text v (inl (ns, reads, is)) =
+    subst (λ (u : Verdict). IsSettled u.status) (sym is) (settled_ending (ending_of (program_printing ns) (run_of (program_printing ns) default_rounds).config))
+settled_text text v (inr (none, is)) = subst (λ (u : Verdict). IsSettled u.status) (sym is) tt
+
+-- ---- what was decided
+
+-- the run of the program that the text is
+pub text_run : (text : List ℕ) (program : Program) (run : Run) (entries : List Entry) (e : Ending) (s : Status) (output : List ℕ)
+    → (ns : List ℕ) × Reads text ns × (program ≡ program_printing ns) → run ≡ run_of program default_rounds → entries ≡ run.entries
+    → e ≡ ending_of program (run_of program default_rounds).config → s ≡ ending_status e → output ≡ run_text entries e
+    → IsTextVerdict text (record { status = s; output = output })
+text_run text program run entries e s output (ns, reads, same) runs are ends is writes =
+    let settled : s ≡ (replayed program default_rounds).status = is ∙ ap ending_status ends in
+    let written : output ≡ (replayed program default_rounds).output =
+    writes ∙ ap (λ xs. run_text xs e) (are ∙ ap (λ (r : Run). r.entries) runs) ∙ ap (run_text (run_of program default_rounds).entries) ends in
+    let whole : record { status = s; output = output } ≡ replayed program default_rounds = λ i. record { status = settled i; output = written i } in
+    inl (ns, reads, whole ∙ ap (λ p. replayed p default_rounds) same)
+
+pub decides_text : (left new : Option (List ℕ)) (before now : ℕ) (v : Verdict) (text bytes : List ℕ) → text ≡ bytes → IsTextVerdict text v
+    → Consumes left new bytes → IsAtEnd new → length bytes ≤ longest → Decides IsReplayVerdict left before now v
+decides_text left new before now v text bytes same is took over few =
+    inr (
+      settled_text text v is,
+      λ all told.
+          let whole : bytes ≡ all = all_read left new bytes all took over told in
+          inl (subst (λ (xs : List ℕ). length xs ≤ longest) whole few, subst (λ t. IsTextVerdict t v) (same ∙ whole) is),
+    )
+
+pub decides_long : (left new : Option (List ℕ)) (before now : ℕ) (v : Verdict) → v ≡ refusal (codes "too long")
+    → Takes left new (λ n. n ≡ longest + 1) → Decides IsReplayVerdict left before now v
+decides_long left new before now v is took =
+    inr (subst (λ (u : Verdict). IsSettled u.status) (sym is) tt, λ all told. inr (many_read left new longest all took told, is))
+
+pub decides_words : (words : List (List ℕ)) (left : Option (List ℕ)) (before now : ℕ) (v : Verdict) → Admits words command.Replay
+    → Decides IsReplayVerdict left before now v → Decides (IsVerdict words) left before now v
+decides_words words left before now v admitted (inl fault) = inl fault
+decides_words words left before now v admitted (inr (ok, answers)) = inr (ok, λ all told. inl (command.Replay, admitted, answers all told))
+
+pub decides_usage : (words : List (List ℕ)) (left : Option (List ℕ)) (before now : ℕ) (v : Verdict) → IsUsage words
+    → v ≡ record { status = status.Usage; output = usage } → Decides (IsVerdict words) left before now v
+decides_usage words left before now v none is = inr (subst (λ (u : Verdict). IsSettled u.status) (sym is) tt, λ all told. inr (none, is))
+
+-- ---- what was written
+
+-- a settled status comes with the whole of its answer
+pub finished : (Answers : List ℕ → Verdict → Type 0) (left holds after : Option (List ℕ)) (before now risen fallen : ℕ) (v : Verdict) (text : List ℕ) (result : Status)
+    → Decides Answers left before now v → text ≡ v.output → Finishes holds after risen fallen v.status text result
+    → IsSettled result → (bytes : List ℕ) → left ≡ Some bytes
+    → (output : List ℕ) × Answers bytes (record { status = result; output = output }) × Appends holds after output
+finished Answers left holds after before now risen fallen v text result decides written (inr (is, rose, front)) settled bytes told = absurd (subst IsSettled is settled)
+finished Answers left holds after before now risen fallen v text result (inl (is, line, rose)) written (inl (same, all)) settled bytes told = absurd (subst IsSettled (same ∙ is) settled)
+finished Answers left holds after before now risen fallen v text result (inr (ok, answers)) written (inl (same, all)) settled bytes told =
+    (v.output, subst (λ s. Answers bytes (record { status = s; output = v.output })) (sym same) (answers bytes told), subst (Appends holds after) written all)

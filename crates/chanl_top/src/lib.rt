@@ -1,0 +1,9 @@
+//! The top call: it does all that the program does.
+#![tactic(auto)]
+
+mod status;
+mod topmost;
+mod verdicts;
+
+pub use status::Status;
+pub use topmost::top;
