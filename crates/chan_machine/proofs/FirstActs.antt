@@ -34,8 +34,11 @@ sum-number env term k small is =
 pub first_moves : (program : Program) (C : Config) (p : Name) (x : Node) (after : ℕ → Body) (forks : ℕ) → IsFirstNode x
     → get C.tasks p ≡ Some (record { place = Running (opened x after) [] []; forks = forks })
     → (D : Config) × (event : Event) × (machine_step program C p ≡ Moves D event)
-first_moves program C p (node.Print term next span) after forks (k, small, is) held =
-    (_, _, ap (step_at machine program C p) held
-    ∙ ap (λ o. effect C p forks (with_result o (λ z. act.Print z (at (after next) [] [])))) (sum-number [] (term_of term) k small is))
+first_moves program C p (node.Print term next span) after forks (k, small, is) held = (
+  _,
+  _,
+  ap (step_at machine program C p) held
+      ∙ ap (λ o. effect C p forks (with_result o (λ z. act.Print z (at (after next) [] [])))) (sum-number [] (term_of term) k small is),
+)
 first_moves program C p (node.Ret value span) after forks unit held =
     (_, _, ap (step_at machine program C p) held ∙ ap (λ v. effect C p forks (with_result (supplied machine [] (supply_of v)) (returned []))) unit)

@@ -5,3 +5,4 @@ pub mod Alone
 pub mod FirstActs
 pub mod RoundOfOne
 pub mod EndingOfOne
+pub mod Samples

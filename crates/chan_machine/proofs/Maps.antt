@@ -37,7 +37,7 @@ module _ {X Y : Type 0} (f : X → Y) where
 pub entries-in_order : {X : Type 0} (es : List (Name × X)) → T (is_sorted (slice_cmp nat_cmp) es) → entries (from_entries {R = slice_cmp nat_cmp} es) ≡ es
 entries-in_order es sorted =
     ap entries (same_map nat_list_cmp_total (slice_cmp-IsAntisymmetric nat_cmp-IsAntisymmetric) (from_entries es) (from_sorted es)
-      (λ q. get-from_entries nat_list_cmp_total es q ∙ sym (get-from_sorted (slice_cmp nat_cmp) es q sorted)))
+    (λ q. get-from_entries nat_list_cmp_total es q ∙ sym (get-from_sorted (slice_cmp nat_cmp) es q sorted)))
     ∙ entries-from_sorted (slice_cmp nat_cmp) es sorted
 
 pub entries-alone : {X Y : Type 0} (f : X → Y) (m : BTreeMap Name X) (x : X) → m.entries ≡ ([], x) ∷ [] → entries (map_of f m) ≡ ([], f x) ∷ []

@@ -6,6 +6,8 @@ mod events;
 mod running;
 mod stepping;
 mod tasks;
+#[cfg(test)]
+mod tests;
 mod values;
 
 pub use configurations::{Config, Put, Puts, Store, Stores};

@@ -28,7 +28,11 @@ pub fn start(alloc: Global, program: &Program) -> Result<Config, Memory>
     let mut frames = Items::new(alloc);
     frames.push(Frame { node, binds })?;
     let name = Name::root(alloc);
-    let task = Task { name, frames, forks: 0 };
+    let task = Task {
+        name,
+        frames,
+        forks: 0,
+    };
     let mut tasks = BTreeMap::new(alloc);
     tasks.insert(Name::root(alloc), task)?;
     Ok(Config {

@@ -31,19 +31,23 @@ straight nodes n m [] chain leads = let none : m - n ≡ 0 = omega (arith, leads
 straight nodes n m (turn ∷ turns) chain (x, next, here, picked, leads) = ⊎_elim
     (λ last. absurd (none turn next (subst (λ ns. slice_get ns turn ≡ Some next) ((chain n x here).1 last) picked)))
     (λ inside.
-      let (first, after) = only (n + 1) turn next (subst (λ ns. slice_get ns turn ≡ Some next) ((chain n x here).0 inside) picked) in
-      let (le, rest) = straight nodes (n + 1) m turns chain (subst (λ k. Leads nodes k turns m) after leads) in
-      let more : m - n ≡ suc (m - (n + 1)) = omega (arith, le) in
-      (omega (arith, le), ap (λ k. k ∷ turns) first ∙ ap (λ ts. 0 ∷ ts) rest ∙ ap (λ k. replicate k 0) (sym more)))
+    let (first, after) = only (n + 1) turn next (subst (λ ns. slice_get ns turn ≡ Some next) ((chain n x here).0 inside) picked) in
+    let (le, rest) = straight nodes (n + 1) m turns chain (subst (λ k. Leads nodes k turns m) after leads) in
+    let more : m - n ≡ suc (m - (n + 1)) = omega (arith, le) in
+    (omega (arith, le), ap (λ k. k ∷ turns) first ∙ ap (λ ts. 0 ∷ ts) rest ∙ ap (λ k. replicate k 0) (sym more)))
     (split (length nodes) (n + 1))
 
 reached : (nodes : List Node) (d n : ℕ) → IsChain nodes → n + d < length nodes → Leads nodes n (replicate d 0) (n + d)
 reached nodes zero n chain lt = omega arith
 reached nodes (suc d) n chain lt = ⊎_elim
     (λ found.
-      let shifted : n + 1 + d ≡ n + suc d = omega arith in
-      (found.0, n + 1, found.2, ap (λ ns. slice_get ns 0) ((chain n found.0 found.2).0 (omega (arith, lt))),
-      subst (Leads nodes (n + 1) (replicate d 0)) shifted (reached nodes d (n + 1) chain (omega (arith, lt)))))
+    let shifted : n + 1 + d ≡ n + suc d = omega arith in (
+      found.0,
+      n + 1,
+      found.2,
+      ap (λ ns. slice_get ns 0) ((chain n found.0 found.2).0 (omega (arith, lt))),
+      subst (Leads nodes (n + 1) (replicate d 0)) shifted (reached nodes d (n + 1) chain (omega (arith, lt))),
+    ))
     (λ past. absurd (omega (arith, lt, past.0)))
     (slice_get_cases nodes n).1
 
@@ -61,17 +65,20 @@ pub numbered : (parts : Parts) (func : Func) → parts.funcs ≡ func ∷ [] →
 numbered parts func are first some few chain = record {
   few = few;
   firsts = λ f found is. let (at, same) = alone parts.funcs func found f are is in
-    let begins = ap (λ g. g.first) same ∙ first in omega (arith, begins, some);
+      let begins = ap (λ g. g.first) same ∙ first in omega (arith, begins, some);
   follow = λ n x is k m picked. ⊎_elim
-    (λ last. absurd (none k m (subst (λ ns. slice_get ns k ≡ Some m) ((chain n x is).1 last) picked)))
-    (λ inside. let (turn, next) = only (n + 1) k m (subst (λ ns. slice_get ns k ≡ Some m) ((chain n x is).0 inside) picked) in omega (arith, next, inside))
-    (split (length parts.nodes) (n + 1));
-  once = λ n lt. (0, replicate n 0,
+      (λ last. absurd (none k m (subst (λ ns. slice_get ns k ≡ Some m) ((chain n x is).1 last) picked)))
+      (λ inside. let (turn, next) = only (n + 1) k m (subst (λ ns. slice_get ns k ≡ Some m) ((chain n x is).0 inside) picked) in omega (arith, next, inside))
+      (split (length parts.nodes) (n + 1));
+  once = λ n lt. (
+    0,
+    replicate n 0,
     (func, ap (λ (fs : List Func). slice_get fs 0) are, from_first parts.nodes func.first n first lt chain),
     λ g others way.
-      let (found, has, leads) = way in
-      let (at, same) = alone parts.funcs func found g are has in
-      let begins = ap (λ h. h.first) same ∙ first in
-      let all : n - 0 ≡ n = omega arith in
-      (at, (straight parts.nodes 0 n others chain (subst (λ k. Leads parts.nodes k others n) begins leads)).1 ∙ ap (λ k. replicate k 0) all));
+        let (found, has, leads) = way in
+        let (at, same) = alone parts.funcs func found g are has in
+        let begins = ap (λ h. h.first) same ∙ first in
+        let all : n - 0 ≡ n = omega arith in
+        (at, (straight parts.nodes 0 n others chain (subst (λ k. Leads parts.nodes k others n) begins leads)).1 ∙ ap (λ k. replicate k 0) all),
+  );
 }

@@ -65,18 +65,22 @@ module _ (parts : Parts) (formed : IsNumbered parts) (f : ℕ) where
   ends zero n turns seen lt reach earlier distinct long =
       let all : AllByRecursion (λ s. s < length parts.nodes) (n ∷ seen) = (lt, each (Earlier turns) (λ s. s < length parts.nodes) (λ s e. e.0) seen earlier) in
       let few = length-le_from_distinct_below (n ∷ seen) (length parts.nodes)
-        (each (Earlier turns) (λ s. eqb n s ≡ false) (λ s e. apart turns n s lt reach e) seen earlier, distinct)
-        (λ q is. among q (λ s. s < length parts.nodes) (n ∷ seen) all is) in
+      (each (Earlier turns) (λ s. eqb n s ≡ false) (λ s e. apart turns n s lt reach e) seen earlier, distinct)
+      (λ q is. among q (λ s. s < length parts.nodes) (n ∷ seen) all is) in
       omega (arith, few, long)
   ends (suc d) n turns seen lt reach earlier distinct long = ⊎_elim
-      (λ found. (found.0, found.2, λ k m at.
-        let (func, has, leads) = reach in
-        let more = length_push turns k in
-        ends d m (turns ++ k ∷ []) (n ∷ seen) (formed.follow n found.0 found.2 k m at)
-        (func, has, one_more parts.nodes func.first n k m turns found.0 leads found.2 at)
-        ((lt, turns, reach, omega (arith, more)), each (Earlier turns) (Earlier (turns ++ k ∷ [])) (λ s e. (e.0, e.1, e.2, omega (arith, e.3, more))) seen earlier)
-        (each (Earlier turns) (λ s. eqb n s ≡ false) (λ s e. apart turns n s lt reach e) seen earlier, distinct)
-        (omega (arith, long))))
+      (λ found. (
+        found.0,
+        found.2,
+        λ k m at.
+            let (func, has, leads) = reach in
+            let more = length_push turns k in
+            ends d m (turns ++ k ∷ []) (n ∷ seen) (formed.follow n found.0 found.2 k m at)
+            (func, has, one_more parts.nodes func.first n k m turns found.0 leads found.2 at)
+            ((lt, turns, reach, omega (arith, more)), each (Earlier turns) (Earlier (turns ++ k ∷ [])) (λ s e. (e.0, e.1, e.2, omega (arith, e.3, more))) seen earlier)
+            (each (Earlier turns) (λ s. eqb n s ≡ false) (λ s e. apart turns n s lt reach e) seen earlier, distinct)
+            (omega (arith, long)),
+      ))
       (λ past. absurd (omega (arith, past.0, lt)))
       (slice_get_cases parts.nodes n).1
 
@@ -87,7 +91,7 @@ opens (suc d) nodes n x (y, has, after) is =
     let same : y ≡ x = cc in
     ap (λ o. opened_at o (rest_within d nodes)) is
     ∙ opened_same x (rest_within d nodes) (rest_within (suc d) nodes)
-      (λ k m at. sym (deeper d (suc d) nodes m (after k m (subst (λ z. slice_get (nexts z) k ≡ Some m) (sym same) at)) (omega arith)))
+    (λ k m at. sym (deeper d (suc d) nodes m (after k m (subst (λ z. slice_get (nexts z) k ≡ Some m) (sym same) at)) (omega arith)))
 
 nothing_distinct : IsDistinct eqb []
 unfolding IsDistinct

@@ -14,10 +14,10 @@ pub returns-clause-value : goal.returns-clause-value
 returns-clause-value c =
     let at = found_alone c.args.config.now.tasks c.args.name.now c.requires.fits.task c.in-Some.task.now c.requires.fits.alone (search rules) in
     IfOk-weaker c.advance.result _ _ (λ s makes.
-      steps_as c.args.program.now (map_of (option_map value_as) c.args.config.now.channels) c.args.config.now.tasks (c.get_mut.follows.lender c.advance.new.task)
-      c.args.config.now.prints c.advance.new.prints c.args.name.now c.in-Some.task.now c.advance.new.task s
-      (search rules) (ap (λ t. t.name) at.1 ∙ c.requires.fits.name ∙ sym at.0)
-      ((c.get_mut.follows.holds c.advance.new.task).3 (search rules)) makes) c.advance.ensures.value
+    steps_as c.args.program.now (map_of (option_map value_as) c.args.config.now.channels) c.args.config.now.tasks (c.get_mut.follows.lender c.advance.new.task)
+    c.args.config.now.prints c.advance.new.prints c.args.name.now c.in-Some.task.now c.advance.new.task s
+    (search rules) (ap (λ t. t.name) at.1 ∙ c.requires.fits.name ∙ sym at.0)
+    ((c.get_mut.follows.holds c.advance.new.task).3 (search rules)) makes) c.advance.ensures.value
 
 pub returns-in_default-clause-limits : goal.returns-in_default-clause-limits
 returns-in_default-clause-limits c =
