@@ -8,6 +8,7 @@ mod nodes;
 mod operands;
 mod resources;
 mod surface_tree;
+mod wellformed;
 
 pub use identifiers::{Ident, Idents, Span, Spans};
 pub use linear::{Bound, Limit, Limits, Part, Relation, Term, TermParts, Terms};
@@ -19,3 +20,4 @@ pub use resources::{Equation, Param, Params, Proto, Protos, Ref, Res, Shape};
 pub use surface_tree::{
     Block, Body, Decl, Decls, Last, Start, Starts, Stmt, Stmts, Surface, SurfaceFunc, SurfaceProto,
 };
+pub use wellformed::{BuildFault, Ill, IllKind, Program};

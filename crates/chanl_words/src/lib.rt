@@ -1,0 +1,24 @@
+//! The words of the command line.
+#![tactic(auto)]
+
+ghost use Rattle.std.specs.Prelude.{map, string_bytes, IfSome, IfNone};
+ghost use Rattle.chanl_words.specs.Words.{Admits, IsUsage};
+
+/// What the program is asked to do.
+#[derive(Clone, Copy, Debug, PartialEq, Eq)]
+pub enum Command {
+    Replay,
+}
+
+impl Command {
+    /// The command of the words after the program's name, where they are one's.
+    pub fn of(words: &[String]) -> Option<Command>
+        ensures some { IfSome result (Admits (map string_bytes words.now)) }
+        ensures none { IfNone result (IsUsage (map string_bytes words.now)) }
+    {
+        match words {
+            [word] if word.as_str() == "replay" => Some(Command::Replay),
+            _ => None,
+        }
+    }
+}

@@ -1,0 +1,14 @@
+pub mod Names
+pub mod Terms
+pub mod Resources
+pub mod Operands
+pub mod Programs
+pub mod Values
+pub mod Computing
+pub mod Configurations
+pub mod Acts
+pub mod Steps
+pub mod Schedules
+pub mod Rounds
+pub mod Endings
+pub mod Laws

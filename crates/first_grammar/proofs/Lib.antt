@@ -1,0 +1,5 @@
+pub mod Blocks
+pub mod Decided
+pub mod Parts
+pub mod Counts
+pub mod Readings

@@ -1,0 +1,3 @@
+pub mod Grammar
+pub mod Test
+pub mod Printing
