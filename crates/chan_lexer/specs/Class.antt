@@ -6,6 +6,7 @@ use Rattle.text_tokens.specs.Text.{is_in_line}
 use Rattle.chan_lexer.specs.declared.words.Class.{Class}
 use Rattle.chan_lexer.specs.declared.words.Class.TheVariants.{Name, Digit, Line}
 
+-- the byte is of the class
 abbrev pub is_in : Class → ℕ → Bool
 is_in Name = continues_name
 is_in Digit = is_ascii_digit

@@ -18,6 +18,7 @@ Says (BadToken span) fault = fault ≡ bad_token span
 Says (NumberTooLarge span) fault = fault ≡ number_too_large span
 Says Memory fault = Unit {0}
 
+-- the answer is want of memory
 abbrev pub IsMemory : LexFault → Type 0
 IsMemory (BadByte span) = ⊥
 IsMemory (BadToken span) = ⊥

@@ -14,6 +14,7 @@ IsBlank (token kind word) = ⊥
 abbrev pub BeginsWith : Piece → ℕ → List ℕ → Type 0
 BeginsWith p len text = (bytes_of p ≡ take len text) × (len ≤ length text) × FitsBefore p (drop len text)
 
+-- what stands at the front of the text is this
 abbrev pub IsFrontOf : List ℕ → Front → Type 0
 IsFrontOf text End = text ≡ []
 IsFrontOf text LineEnd = BeginsWith (separator 10) 1 text

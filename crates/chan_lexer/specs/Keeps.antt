@@ -4,6 +4,7 @@ use Rattle.chan_lexer.specs.declared.lexed.Tokens.TheInside.{Inside}
 use Rattle.chan_lexer.specs.Lexed.{Lexed}
 use Rattle.chan_lexer.specs.Spelled.{spelled}
 
+-- the source and its tokens
 abbrev pub lexed : Inside → Lexed
 lexed t = record { source = t.source; list = t.list }
 

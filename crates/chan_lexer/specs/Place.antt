@@ -1,4 +1,4 @@
--- Places of a text, and the tokens that spans spell.
+-- Places of a text.
 use Rattle.std.specs.Prelude.{ℕ, ◌+◌, List, length}
 use Rattle.std.specs.List.{count_by, suffix_len}
 use Rattle.chan_syntax.specs.declared.identifiers.Span.{Span}
@@ -10,11 +10,14 @@ abbrev pub place_behind : List ℕ → Place
 place_behind front =
     record { at = length front; line = 1 + count_by is_line_end front; column = 1 + suffix_len is_in_line front }
 
+-- the span of a word of this many bytes
 abbrev pub span : Place → ℕ → Span
 span p len = record { start = p.at; stop = p.at + len; line = p.line; column = p.column }
 
+-- the place this many bytes further in the line
 abbrev pub along : Place → ℕ → Place
 along p len = record { at = p.at + len; line = p.line; column = p.column + len }
 
+-- the place behind a line end
 abbrev pub next_line : Place → Place
 next_line p = record { at = p.at + 1; line = p.line + 1; column = 1 }

@@ -21,8 +21,10 @@ pub fn tokens(alloc: Global, text: &[u8]) -> Result<Tokens, LexFault>
     ensures longest { IfOk result (λ t. All (StandsIn text.now) (tokens_of t)) }
     ensures in_order { IfOk result (λ t. AreInOrder 0 (tokens_of t)) }
     ensures err { IfErr result (IsFaultOf text.now) }
-    ensures accepted { (list : List spec.Token) → HasTokens text.now list → MatchResult result (λ t. tokens_of t ≡ list) IsMemory }
-    ensures refused { (fault : Fault) → IsFirstFault text.now fault → MatchResult result (λ _. ⊥) (λ e. Says e fault) }
+    ensures accepted { (list : List spec.Token) → HasTokens text.now list →
+        MatchResult result (λ t. tokens_of t ≡ list) IsMemory }
+    ensures refused { (fault : Fault) → IsFirstFault text.now fault →
+        MatchResult result (λ _. ⊥) (λ e. Says e fault) }
 {
     let list = cut(alloc, text)?;
     let source = Items::from_slice(alloc, text)?;

@@ -5,7 +5,9 @@ ghost use Rattle.chan_lexer.specs.Place as spec;
 
 use chan_syntax::Span;
 
-/// Lines and columns count from 1.
+/// What lines and columns count from.
+const FIRST: u32 = 1;
+
 #[derive(Clone, Copy, Debug)]
 pub struct Place {
     pub at: u32,
@@ -19,8 +21,8 @@ impl Place {
     {
         Place {
             at: 0,
-            line: 1,
-            column: 1,
+            line: FIRST,
+            column: FIRST,
         }
     }
 
@@ -57,7 +59,7 @@ impl Place {
         Place {
             at: self.at + 1,
             line: self.line + 1,
-            column: 1,
+            column: FIRST,
         }
     }
 }
