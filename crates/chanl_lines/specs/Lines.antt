@@ -1,8 +1,9 @@
 -- The lines that the program writes.
 use Rattle.std.specs.Prelude.{ℕ, ℤ, codes, List, [], ◌∷◌, ◌++◌}
 use Rattle.std.specs.List.{flat_map}
-use Rattle.std.specs.Fmt.{signed_decimal}
+use Rattle.std.specs.Fmt.{decimal, signed_decimal}
 use Rattle.chan_base.specs.Names.{name_text}
+use Rattle.chan_syntax.specs.declared.identifiers.Span.{Span}
 use Rattle.core_language.specs.Names.{Name}
 use Rattle.core_language.specs.Computing.{StuckWhy}
 use Rattle.core_language.specs.Computing as why
@@ -21,6 +22,14 @@ read_fault = line (codes "read fault")
 
 abbrev pub refused : List ℕ → List ℕ
 refused why = line (codes "refused " ++ why)
+
+-- the line and the column
+abbrev pub place_text : Span → List ℕ
+place_text span = decimal span.line ++ 58 ∷ decimal span.column
+
+-- refused for what stands at a place
+abbrev pub refused_at : Span → List ℕ → List ℕ
+refused_at span why = refused (place_text span ++ 32 ∷ why)
 
 -- each number on a line of its own
 abbrev pub print_lines : List ℤ → List ℕ

@@ -9,6 +9,7 @@ ghost use Rattle.chanl_lines.specs.Lines as spec;
 
 use chan_base::{Bytes, Memory, Name};
 use chan_machine::{Ending, Entry, Event, StuckWhy};
+use chan_syntax::Span;
 use std::alloc::Global;
 
 #[tactic(auto, using(crate::proofs::Prints::by_entries))]
@@ -19,6 +20,22 @@ pub fn run_text(alloc: Global, entries: &[Entry], ending: &Ending) -> Result<Byt
     let mut text = Vec::new(alloc);
     add_prints(alloc, &mut text, entries)?;
     add_ending(alloc, &mut text, ending)?;
+    Ok(Bytes::from_vec(text))
+}
+
+/// The line that refuses a text for what stands at a place.
+pub fn refused_at(alloc: Global, span: Span, why: &[u8]) -> Result<Bytes, Memory>
+    ensures { IfOk result (λ text. text ≡ spec.refused_at span why.now) }
+{
+    let mut text = Vec::from_slice(alloc, b"refused ")?;
+    let line = span.line.to_string(alloc)?;
+    text.extend_from_slice(line.as_bytes())?;
+    text.push(b':')?;
+    let column = span.column.to_string(alloc)?;
+    text.extend_from_slice(column.as_bytes())?;
+    text.push(b' ')?;
+    text.extend_from_slice(why)?;
+    text.push(b'\n')?;
     Ok(Bytes::from_vec(text))
 }
 
