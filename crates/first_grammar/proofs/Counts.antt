@@ -94,12 +94,12 @@ length-statements : (ns : List ℕ) (ws : List Word) → length ns ≤ length (f
 length-statements [] ws = omega arith
 length-statements (n ∷ ns) ws = omega (arith, length-statements ns ws)
 
-pub plain_numbers : (text : List ℕ) (ns : List ℕ) → Reads text ns → ArePlain ns
-plain_numbers text ns (tokens, has, are) =
-    let all = subst (AllByRecursion IsSmall) are (small_words tokens (within text tokens has)) in
+pub plain_numbers : (text : List ℕ) (ts : List Token) (ns : List ℕ) → HasTokens text ts → Reads ts ns → ArePlain ns
+plain_numbers text ts ns has are =
+    let all = subst (AllByRecursion IsSmall) are (small_words ts (within text ts has)) in
     plain_statements ns footer all.1.1.1.1.1.1.1
 
-pub few_numbers : (text : List ℕ) (ns : List ℕ) → Reads text ns → length ns + 1 ≤ length text
-few_numbers text ns (tokens, has, are) =
-    let count : length tokens ≡ length (program_of ns) = sym (length-map tokens word_of) ∙ ap length are in
-    omega (arith, few_tokens text tokens has, count, length-statements ns footer)
+pub few_numbers : (text : List ℕ) (ts : List Token) (ns : List ℕ) → HasTokens text ts → Reads ts ns → length ns + 1 ≤ length text
+few_numbers text ts ns has are =
+    let count : length ts ≡ length (program_of ns) = sym (length-map ts word_of) ∙ ap length are in
+    omega (arith, few_tokens text ts has, count, length-statements ns footer)

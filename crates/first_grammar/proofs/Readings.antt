@@ -1,7 +1,6 @@
--- Each text is one program of the first grammar, or none.
+-- Tokens are one program of the first grammar, or none.
 use Rattle.std.proofs.Common.{IfSome, IfNone, Option, None, ◌≡◌, ℕ, List, map, Some, sym, ap, ◌∙◌}
-use Rattle.text_tokens.specs.Text.{Token, HasTokens}
-use Rattle.text_tokens.proofs.Cuts.{one_list}
+use Rattle.text_tokens.specs.Text.{Token}
 use Rattle.first_grammar.specs.declared.words.Word.{Word}
 use Rattle.first_grammar.specs.Grammar.{word_of, program_of, Reads, IsNoProgram}
 use Rattle.first_grammar.specs.Test.{numbers_of}
@@ -11,22 +10,17 @@ use Rattle.first_grammar.proofs.Decided.{numbers_of-reads, numbers_of-whole}
 pub numbers_told : (ws : List Word) (ns : List ℕ) → ws ≡ program_of ns → numbers_of ws ≡ Some ns
 numbers_told ws ns is = ap numbers_of is ∙ numbers_of-whole ns
 
-pub one_reading : (text : List ℕ) (ns ms : List ℕ) → Reads text ns → Reads text ms → ns ≡ ms
-one_reading text ns ms (tokens, has, are) (others, has_too, are_too) =
-    let same : numbers_of (map word_of tokens) ≡ Some ms = ap (λ ts. numbers_of (map word_of ts)) (one_list text tokens others has has_too) ∙ numbers_told (map word_of others) ms are_too in
-    let both : Some ns ≡ Some ms = sym (numbers_told (map word_of tokens) ns are) ∙ same in
+pub one_reading : (ts : List Token) (ns ms : List ℕ) → Reads ts ns → Reads ts ms → ns ≡ ms
+one_reading ts ns ms first second =
+    let both : Some ns ≡ Some ms = sym (numbers_told (map word_of ts) ns first) ∙ numbers_told (map word_of ts) ms second in
     cc
 
--- ---- what the test for words says of the text
+-- ---- what the test for words says of the tokens
 
-pub told_some : (text : List ℕ) (ts : List Token) (o : Option (List ℕ)) → HasTokens text ts → o ≡ numbers_of (map word_of ts) → IfSome o (Reads text)
-told_some text ts None has is = tt
-told_some text ts (Some ns) has is = (ts, has, numbers_of-reads (map word_of ts) ns (sym is))
+pub told_some : (ts : List Token) (o : Option (List ℕ)) → o ≡ numbers_of (map word_of ts) → IfSome o (Reads ts)
+told_some ts None is = tt
+told_some ts (Some ns) is = numbers_of-reads (map word_of ts) ns (sym is)
 
-pub told_none : (text : List ℕ) (ts : List Token) (o : Option (List ℕ)) → HasTokens text ts → o ≡ numbers_of (map word_of ts) → IfNone o (IsNoProgram text)
-told_none text ts (Some ns) has is = tt
-told_none text ts None has is = λ ns reads.
-    let (others, has_too, are) = reads in
-    let told : numbers_of (map word_of ts) ≡ Some ns = ap (λ us. numbers_of (map word_of us)) (one_list text ts others has has_too) ∙ numbers_told (map word_of others) ns are in
-    let both : None ≡ Some ns = is ∙ told in
-    cc
+pub told_none : (ts : List Token) (o : Option (List ℕ)) → o ≡ numbers_of (map word_of ts) → IfNone o (IsNoProgram ts)
+told_none ts (Some ns) is = tt
+told_none ts None is = λ ns reads. let both : None ≡ Some ns = is ∙ numbers_told (map word_of ts) ns reads in cc

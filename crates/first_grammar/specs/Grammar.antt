@@ -4,7 +4,7 @@ use Rattle.std.specs.List.{flat_map}
 use Rattle.std.specs.Str.{bytes_eq}
 use Rattle.text_tokens.specs.declared.TokenKind.{TokenKind}
 use Rattle.text_tokens.specs.declared.TokenKind.TheVariants as kind
-use Rattle.text_tokens.specs.Text.{Token, HasTokens}
+use Rattle.text_tokens.specs.Text.{Token}
 use Rattle.first_grammar.specs.declared.words.Word.{Word}
 use Rattle.first_grammar.specs.declared.words.Word.TheVariants as word
 
@@ -50,10 +50,10 @@ footer = word.Ret ∷ word.LeftParen ∷ word.RightParen ∷ word.RightBrace ∷
 abbrev pub program_of : List ℕ → List Word
 program_of numbers = header ++ flat_map statement numbers ++ footer
 
--- the text is the program that prints the numbers
-abbrev pub Reads : List ℕ → List ℕ → Type 0
-Reads text numbers = (tokens : List Token) × HasTokens text tokens × (map word_of tokens ≡ program_of numbers)
+-- the tokens are the program that prints the numbers
+abbrev pub Reads : List Token → List ℕ → Type 0
+Reads tokens numbers = map word_of tokens ≡ program_of numbers
 
--- the text is no program of the first grammar
-abbrev pub IsNoProgram : List ℕ → Type 0
-IsNoProgram text = (numbers : List ℕ) → ¬ Reads text numbers
+-- the tokens are no program of the first grammar
+abbrev pub IsNoProgram : List Token → Type 0
+IsNoProgram tokens = (numbers : List ℕ) → ¬ Reads tokens numbers

@@ -2,6 +2,7 @@
 #![tactic(auto)]
 
 ghost use Rattle.std.specs.Prelude.{◌≡◌, ℕ, List};
+ghost use Rattle.text_tokens.specs.Text.{Token};
 ghost use Rattle.first_grammar.specs.Grammar.{Reads};
 
 mod building;
@@ -10,7 +11,7 @@ mod words;
 
 pub use programs::program;
 
-/// No text is read in two ways.
+/// No tokens are read in two ways.
 pub fn laws()
-    ensures { (text numbers others : List ℕ) → Reads text numbers → Reads text others → numbers ≡ others }
+    ensures { (tokens : List Token) (numbers others : List ℕ) → Reads tokens numbers → Reads tokens others → numbers ≡ others }
 {}

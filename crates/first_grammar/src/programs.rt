@@ -1,7 +1,8 @@
-//! Which texts are a program, and the program that they are.
+//! Which tokens are a program, and the program that they are.
 ghost use Rattle.std.specs.Prelude.{◌≡◌, ◌<◌, ℕ, List, [], if◌then◌else◌, length, Some, None, IfOk, IfSome, IfNone};
 ghost use Rattle.std.specs.Option.{option_copied};
 ghost use Rattle.chan_syntax.specs.Bodies.{program_of};
+ghost use Rattle.chan_lexer.specs.Lexed.{tokens_of};
 ghost use Rattle.first_grammar.specs.Grammar.{Reads, IsNoProgram};
 ghost use Rattle.first_grammar.specs.Printing.{program_printing};
 ghost use Rattle.first_grammar.specs.Test.{strip as words_after, number_in, is_statement, last, block, numbers_of};
@@ -9,7 +10,7 @@ ghost use Rattle.first_grammar.specs.Test.{strip as words_after, number_in, is_s
 use crate::building::program_printing as built;
 use crate::words::{Word, words};
 use chan_base::Memory;
-use chan_lexer::{LexFault, tokens};
+use chan_lexer::Tokens;
 use chan_syntax::Program;
 use sqlite_items::Items;
 use std::alloc::Global;
@@ -83,32 +84,24 @@ fn program_numbers(alloc: Global, words: &[Word]) -> Result<Option<Numbers>, Mem
     }
 }
 
-/// The numbers that the program prints, where the text is one.
-fn numbers(alloc: Global, text: &[u8]) -> Result<Option<Numbers>, Memory>
-    requires { length text.now < 4294967295 }
-    ensures some { IfOk result (λ r. IfSome r (Reads text.now)) }
-    ensures none { IfOk result (λ r. IfNone r (IsNoProgram text.now)) }
+/// The numbers that the program prints, where the tokens are one.
+fn numbers(alloc: Global, tokens: &Tokens) -> Result<Option<Numbers>, Memory>
+    ensures some { IfOk result (λ r. IfSome r (Reads (tokens_of tokens.now))) }
+    ensures none { IfOk result (λ r. IfNone r (IsNoProgram (tokens_of tokens.now))) }
 {
-    match tokens(alloc, text) {
-        Ok(tokens) => {
-            let words = words(alloc, &tokens)?;
-            let numbers = program_numbers(alloc, words.as_slice())?;
-            Ok(numbers)
-        }
-        Err(LexFault::Memory) => Err(Memory),
-        Err(LexFault::BadByte(_)) => Ok(None),
-        Err(LexFault::BadToken(_)) => Ok(None),
-        Err(LexFault::NumberTooLarge(_)) => Ok(None),
-    }
+    let words = words(alloc, tokens)?;
+    let numbers = program_numbers(alloc, words.as_slice())?;
+    Ok(numbers)
 }
 
-/// The program that the text is, where it is one.
-pub fn program(alloc: Global, text: &[u8]) -> Result<Option<Program>, Memory>
-    requires { length text.now < 4294967295 }
-    ensures some { IfOk result (λ r. IfSome r (λ program. (numbers : List ℕ) × Reads text.now numbers × (program_of program ≡ program_printing numbers))) }
-    ensures none { IfOk result (λ r. IfNone r (IsNoProgram text.now)) }
+/// The program that the tokens are, where they are one.
+pub fn program(alloc: Global, tokens: &Tokens) -> Result<Option<Program>, Memory>
+    requires { length tokens.now.source < 4294967295 }
+    ensures some { IfOk result (λ r. IfSome r (λ program. (numbers : List ℕ) × Reads (tokens_of tokens.now) numbers × (program_of program ≡ program_printing numbers))) }
+    ensures none { IfOk result (λ r. IfNone r (IsNoProgram (tokens_of tokens.now))) }
 {
-    match numbers(alloc, text)? {
+    let _list = tokens.list();
+    match numbers(alloc, tokens)? {
         None => Ok(None),
         Some(numbers) => {
             let program = built(alloc, numbers.as_slice())?;
