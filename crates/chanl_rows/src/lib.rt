@@ -2,4 +2,10 @@
 #![tactic(auto)]
 
 #[cfg(test)]
+mod answers;
+#[cfg(test)]
+mod formats;
+#[cfg(test)]
 mod replays;
+#[cfg(test)]
+mod spellings;

@@ -8,13 +8,15 @@ use Rattle.core_language.specs.Endings as ending
 use Rattle.chan_base.specs.Stream.{Rose, Takes}
 use Rattle.first_grammar.specs.Grammar.{Reads, IsNoProgram}
 use Rattle.first_grammar.specs.Printing.{program_printing}
+use Rattle.text_tokens.specs.Text.{Token, HasTokens}
+use Rattle.chanl_words.specs.declared.Command.{Command}
 use Rattle.chanl_words.specs.declared.Command.TheVariants as command
-use Rattle.chanl_words.specs.Words.{Admits, IsUsage}
-use Rattle.chanl_lines.specs.Lines.{usage, run_text}
+use Rattle.chanl_words.specs.Words.{Admits}
+use Rattle.chanl_lines.specs.Lines.{run_text}
 use Rattle.chanl_top.specs.declared.status.Status.{Status}
 use Rattle.chanl_top.specs.declared.status.Status.TheVariants as status
 use Rattle.chanl_top.specs.declared.verdicts.Verdict.{Verdict}
-use Rattle.chanl_top.specs.Verdict.{refusal, longest, default_rounds, ending_status, ran, replayed, IsTextVerdict, IsReplayVerdict, IsVerdict}
+use Rattle.chanl_top.specs.Verdict.{refusal, longest, default_rounds, ending_status, ran, replayed, IsFmtVerdict, IsReplayVerdict, IsTextVerdict, IsCommandVerdict, IsVerdict}
 use Rattle.chanl_top.specs.Decided.{IsSettled, Decides, Finishes}
 
 -- all was read, so the bytes are those that were left
@@ -45,48 +47,53 @@ settled_ending (ending.Stuck p why) = tt
 settled_ending (ending.Deadlocked ps) = tt
 settled_ending (ending.Leaked cs) = tt
 
-settled_text : (text : List ℕ) (v : Verdict) → IsTextVerdict text v → IsSettled v.status
-settled_text text v (inl (ns, reads, is)) =
+settled_fmt : (text : List ℕ) (v : Verdict) → IsFmtVerdict text v → IsSettled v.status
+settled_fmt text v (inl (tree, reads, is)) = subst (λ (u : Verdict). IsSettled u.status) (sym is) tt
+settled_fmt text v (inr (line, unread, is)) = subst (λ (u : Verdict). IsSettled u.status) (sym is) tt
+
+settled_replay : (text : List ℕ) (v : Verdict) → IsReplayVerdict text v → IsSettled v.status
+settled_replay text v (inl (tokens, has, ns, reads, is)) =
     subst (λ (u : Verdict). IsSettled u.status) (sym is) (settled_ending (ending_of (program_printing ns) (run_of (program_printing ns) default_rounds).config))
-settled_text text v (inr (none, is)) = subst (λ (u : Verdict). IsSettled u.status) (sym is) tt
+settled_replay text v (inr (inl (tokens, has, none, tree, is))) = subst (λ (u : Verdict). IsSettled u.status) (sym is) tt
+settled_replay text v (inr (inr (line, unread, is))) = subst (λ (u : Verdict). IsSettled u.status) (sym is) tt
+
+settled_text : (command : Command) (text : List ℕ) (v : Verdict) → IsTextVerdict command text v → IsSettled v.status
+settled_text command.Fmt text v is = settled_fmt text v is
+settled_text command.Replay text v is = settled_replay text v is
 
 -- ---- what was decided
 
--- the run of the program that the text is
-pub text_run : (text : List ℕ) (program : Program) (run : Run) (entries : List Entry) (e : Ending) (s : Status) (output : List ℕ)
-    → (ns : List ℕ) × Reads text ns × (program ≡ program_printing ns) → run ≡ run_of program default_rounds → entries ≡ run.entries
+-- the run of the program that the tokens are
+pub text_run : (text : List ℕ) (tokens : List Token) (program : Program) (run : Run) (entries : List Entry) (e : Ending) (s : Status) (output : List ℕ)
+    → HasTokens text tokens → (ns : List ℕ) × Reads tokens ns × (program ≡ program_printing ns) → run ≡ run_of program default_rounds → entries ≡ run.entries
     → e ≡ ending_of program (run_of program default_rounds).config → s ≡ ending_status e → output ≡ run_text entries e
-    → IsTextVerdict text (record { status = s; output = output })
-text_run text program run entries e s output (ns, reads, same) runs are ends is writes =
+    → IsReplayVerdict text (record { status = s; output = output })
+text_run text tokens program run entries e s output has (ns, reads, same) runs are ends is writes =
     let settled : s ≡ (replayed program default_rounds).status = is ∙ ap ending_status ends in
     let written : output ≡ (replayed program default_rounds).output =
     writes ∙ ap (λ xs. run_text xs e) (are ∙ ap (λ (r : Run). r.entries) runs) ∙ ap (run_text (run_of program default_rounds).entries) ends in
     let whole : record { status = s; output = output } ≡ replayed program default_rounds = λ i. record { status = settled i; output = written i } in
-    inl (ns, reads, whole ∙ ap (λ p. replayed p default_rounds) same)
+    inl (tokens, has, ns, reads, whole ∙ ap (λ p. replayed p default_rounds) same)
 
-pub decides_text : (left new : Option (List ℕ)) (before now : ℕ) (v : Verdict) (text bytes : List ℕ) → text ≡ bytes → IsTextVerdict text v
-    → Consumes left new bytes → IsAtEnd new → length bytes ≤ longest → Decides IsReplayVerdict left before now v
-decides_text left new before now v text bytes same is took over few =
+pub decides_text : (command : Command) (left new : Option (List ℕ)) (before now : ℕ) (v : Verdict) (text bytes : List ℕ) → text ≡ bytes → IsTextVerdict command text v
+    → Consumes left new bytes → IsAtEnd new → length bytes ≤ longest → Decides (IsCommandVerdict command) left before now v
+decides_text command left new before now v text bytes same is took over few =
     inr (
-      settled_text text v is,
+      settled_text command text v is,
       λ all told.
-          let whole : bytes ≡ all = all_read left new bytes all took over told in
-          inl (subst (λ (xs : List ℕ). length xs ≤ longest) whole few, subst (λ t. IsTextVerdict t v) (same ∙ whole) is),
+        let whole : bytes ≡ all = all_read left new bytes all took over told in
+        inl (subst (λ (xs : List ℕ). length xs ≤ longest) whole few, subst (λ t. IsTextVerdict command t v) (same ∙ whole) is),
     )
 
-pub decides_long : (left new : Option (List ℕ)) (before now : ℕ) (v : Verdict) → v ≡ refusal (codes "too long")
-    → Takes left new (λ n. n ≡ longest + 1) → Decides IsReplayVerdict left before now v
-decides_long left new before now v is took =
+pub decides_long : (command : Command) (left new : Option (List ℕ)) (before now : ℕ) (v : Verdict) → v ≡ refusal (codes "too long")
+    → Takes left new (λ n. n ≡ longest + 1) → Decides (IsCommandVerdict command) left before now v
+decides_long command left new before now v is took =
     inr (subst (λ (u : Verdict). IsSettled u.status) (sym is) tt, λ all told. inr (many_read left new longest all took told, is))
 
-pub decides_words : (words : List (List ℕ)) (left : Option (List ℕ)) (before now : ℕ) (v : Verdict) → Admits words command.Replay
-    → Decides IsReplayVerdict left before now v → Decides (IsVerdict words) left before now v
-decides_words words left before now v admitted (inl fault) = inl fault
-decides_words words left before now v admitted (inr (ok, answers)) = inr (ok, λ all told. inl (command.Replay, admitted, answers all told))
-
-pub decides_usage : (words : List (List ℕ)) (left : Option (List ℕ)) (before now : ℕ) (v : Verdict) → IsUsage words
-    → v ≡ record { status = status.Usage; output = usage } → Decides (IsVerdict words) left before now v
-decides_usage words left before now v none is = inr (subst (λ (u : Verdict). IsSettled u.status) (sym is) tt, λ all told. inr (none, is))
+pub decides_words : (command : Command) (words : List (List ℕ)) (left : Option (List ℕ)) (before now : ℕ) (v : Verdict) → Admits words command
+    → Decides (IsCommandVerdict command) left before now v → Decides (IsVerdict words) left before now v
+decides_words command words left before now v admitted (inl fault) = inl fault
+decides_words command words left before now v admitted (inr (ok, answers)) = inr (ok, λ all told. inl (command, admitted, answers all told))
 
 -- ---- what was written
 

@@ -9,7 +9,15 @@ use Rattle.first_grammar.specs.Printing.{program_printing}
 use Rattle.chanl_words.specs.declared.Command.{Command}
 use Rattle.chanl_words.specs.declared.Command.TheVariants as command
 use Rattle.chanl_words.specs.Words.{Admits, IsUsage}
-use Rattle.chanl_lines.specs.Lines.{usage, refused, run_text}
+use Rattle.chanl_lines.specs.Lines.{usage, refused, refused_at, run_text}
+use Rattle.chan_syntax.specs.declared.surface_tree.Surface.{Surface}
+use Rattle.text_tokens.specs.Text.{Token, HasTokens, Fault, bad_byte, bad_token, number_too_large, IsFirstFault}
+use Rattle.surface_grammar.specs.Language.{Derives}
+use Rattle.surface_spelling.specs.Spelling.{spelling}
+use Rattle.chan_parser.specs.declared.parse_fault.ParseFault.{ParseFault}
+use Rattle.chan_parser.specs.declared.parse_fault.ParseFault.TheVariants as parse_fault
+use Rattle.chan_parser.specs.Parse.{IsMemory}
+use Rattle.chan_parser.specs.Parse.{IsFirstFault as IsParseFault}
 use Rattle.chanl_top.specs.declared.status.Status.{Status}
 use Rattle.chanl_top.specs.declared.status.Status.TheVariants as status
 use Rattle.chanl_top.specs.declared.verdicts.Verdict.{Verdict}
@@ -57,19 +65,56 @@ ran program run = record {
 abbrev pub replayed : Program → ℕ → Verdict
 replayed program rounds = ran program (run_of program rounds)
 
--- a program is run, and any other text refused
-abbrev pub IsTextVerdict : List ℕ → Verdict → Type 0
-IsTextVerdict text verdict =
-    ((numbers : List ℕ) × Reads text numbers × (verdict ≡ replayed (program_printing numbers) default_rounds))
-    ⊎ (IsNoProgram text × (verdict ≡ refusal (codes "not yet")))
+-- ---- reading a text
 
--- a text that is too long is refused for that alone
+-- the text is read as the tree
+abbrev pub ReadsAs : List ℕ → Surface → Type 0
+ReadsAs text tree = (tokens : List Token) × HasTokens text tokens × Derives tree tokens
+
+-- why a text has no tokens
+abbrev pub lexing_line : Fault → List ℕ
+lexing_line (bad_byte span) = refused_at span (codes "bad byte")
+lexing_line (bad_token span) = refused_at span (codes "bad token")
+lexing_line (number_too_large span) = refused_at span (codes "number too large")
+
+-- why tokens have no tree
+abbrev pub grammar_line : ParseFault → List ℕ
+grammar_line (parse_fault.Unexpected span) = refused_at span (codes "unexpected")
+grammar_line (parse_fault.TooDeep span) = refused_at span (codes "too deep")
+grammar_line parse_fault.Memory = []
+
+-- the text has no tokens, or they have no tree, and the line says why
+abbrev pub IsUnread : List ℕ → List ℕ → Type 0
+IsUnread text line =
+    ((fault : Fault) × IsFirstFault text fault × (line ≡ lexing_line fault))
+    ⊎ ((tokens : List Token) × HasTokens text tokens × (fault : ParseFault) × IsParseFault text tokens fault × (¬ IsMemory fault) × (line ≡ grammar_line fault))
+
+abbrev pub line_refusal : List ℕ → Verdict
+line_refusal line = record { status = status.TextRefused; output = line }
+
+-- ---- commands on a text of at most the greatest length
+
+-- the canonical spelling of the tree
+abbrev pub IsFmtVerdict : List ℕ → Verdict → Type 0
+IsFmtVerdict text verdict =
+    ((tree : Surface) × ReadsAs text tree × (verdict ≡ record { status = status.Done; output = spelling tree }))
+    ⊎ ((line : List ℕ) × IsUnread text line × (verdict ≡ line_refusal line))
+
+-- the run of a program that prints numbers; other texts of the grammar can't be run yet
 abbrev pub IsReplayVerdict : List ℕ → Verdict → Type 0
 IsReplayVerdict text verdict =
-    ((length text ≤ longest) × IsTextVerdict text verdict) ⊎ ((longest < length text) × (verdict ≡ refusal (codes "too long")))
+    ((tokens : List Token) × HasTokens text tokens × (numbers : List ℕ) × Reads tokens numbers × (verdict ≡ replayed (program_printing numbers) default_rounds))
+    ⊎ (((tokens : List Token) × HasTokens text tokens × IsNoProgram tokens × ((tree : Surface) × Derives tree tokens) × (verdict ≡ refusal (codes "not yet")))
+    ⊎ ((line : List ℕ) × IsUnread text line × (verdict ≡ line_refusal line)))
 
+abbrev pub IsTextVerdict : Command → List ℕ → Verdict → Type 0
+IsTextVerdict command.Fmt text verdict = IsFmtVerdict text verdict
+IsTextVerdict command.Replay text verdict = IsReplayVerdict text verdict
+
+-- a text that is too long is refused for that alone
 abbrev pub IsCommandVerdict : Command → List ℕ → Verdict → Type 0
-IsCommandVerdict command.Replay text verdict = IsReplayVerdict text verdict
+IsCommandVerdict command text verdict =
+    ((length text ≤ longest) × IsTextVerdict command text verdict) ⊎ ((longest < length text) × (verdict ≡ refusal (codes "too long")))
 
 -- the answer to the words, where these are all bytes of the input
 abbrev pub IsVerdict : List (List ℕ) → List ℕ → Verdict → Type 0

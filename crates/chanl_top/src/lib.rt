@@ -1,6 +1,7 @@
 //! The top call: it does all that the program does.
 #![tactic(auto)]
 
+mod readings;
 mod status;
 mod topmost;
 mod verdicts;

@@ -4,7 +4,7 @@ ghost use Rattle.std.specs.Io.KnownBytes.{Appends, IsAtEnd};
 ghost use Rattle.chan_base.specs.Stream.{Rose, AppendsFront};
 ghost use Rattle.chanl_words.specs.Words.{Admits, IsUsage};
 ghost use Rattle.chanl_lines.specs.Lines.{read_fault};
-ghost use Rattle.chanl_top.specs.Verdict.{IsVerdict, IsReplayVerdict};
+ghost use Rattle.chanl_top.specs.Verdict.{IsVerdict, IsCommandVerdict};
 ghost use Rattle.chanl_top.specs.Decided.{IsSettled, IsOfProgram, ReadsWhole, Decides, Finishes};
 
 use crate::status::Status;
@@ -31,15 +31,19 @@ fn finish<K: Sink>(sink: &mut K, status: Status, text: &[u8]) -> Status
 }
 
 /// The answer to the bytes of the source.
-fn read_and_answer<S: Source>(alloc: Global, source: &mut S) -> Result<Verdict, Memory>
-    ensures answer { IfOk result (Decides IsReplayVerdict (S.left source.old) (S.faults source.old) (S.faults source.new)) }
+fn read_and_answer<S: Source>(
+    alloc: Global,
+    command: Command,
+    source: &mut S,
+) -> Result<Verdict, Memory>
+    ensures answer { IfOk result (Decides (IsCommandVerdict command) (S.left source.old) (S.faults source.old) (S.faults source.new)) }
     ensures whole { IfOk result (λ v. ReadsWhole (S.left source.old) (S.left source.new) v.status) }
     ensures of_program { IfOk result (λ v. IsOfProgram v.status → IsAtEnd (S.left source.new)) }
     ensures later { S.faults source.old ≤ S.faults source.new }
 {
     match read_all(alloc, source, LONGEST) {
         Ok(bytes) => {
-            let verdict = answer_to(alloc, bytes.as_slice())?;
+            let verdict = answer_to(alloc, command, bytes.as_slice())?;
             Ok(verdict)
         }
         Err(ReadAll::ReadFault) => {
@@ -63,14 +67,14 @@ fn read_and_answer<S: Source>(alloc: Global, source: &mut S) -> Result<Verdict, 
 /// The answer to the words, before anything is written.
 fn decide<S: Source>(alloc: Global, words: &[String], source: &mut S) -> Result<Verdict, Memory>
     ensures answer { IfOk result (Decides (IsVerdict (map string_bytes words.now)) (S.left source.old) (S.faults source.old) (S.faults source.new)) }
-    ensures whole { Admits (map string_bytes words.now) Command.Replay → IfOk result (λ v. ReadsWhole (S.left source.old) (S.left source.new) v.status) }
+    ensures whole { (command : Command) → Admits (map string_bytes words.now) command → IfOk result (λ v. ReadsWhole (S.left source.old) (S.left source.new) v.status) }
     ensures of_program { IfOk result (λ v. IsOfProgram v.status → IsAtEnd (S.left source.new)) }
     ensures unread { IsUsage (map string_bytes words.now) → source.new ≡ source.old }
     ensures later { S.faults source.old ≤ S.faults source.new }
 {
     match Command::of(words) {
-        Some(Command::Replay) => {
-            let verdict = read_and_answer(alloc, source)?;
+        Some(command) => {
+            let verdict = read_and_answer(alloc, command, source)?;
             Ok(verdict)
         }
         None => {
@@ -108,7 +112,7 @@ pub fn top<S: Source, K: Sink>(
     // What was read.
     ensures unread { IsUsage (map string_bytes words.now) → source.new ≡ source.old }
     ensures of_program { IsOfProgram result → IsAtEnd (S.left source.new) }
-    ensures whole { Admits (map string_bytes words.now) Command.Replay → ReadsWhole (S.left source.old) (S.left source.new) result }
+    ensures whole { (command : Command) → Admits (map string_bytes words.now) command → ReadsWhole (S.left source.old) (S.left source.new) result }
 
     // Where nothing fails there is no other answer than the verdict and want of memory.
     ensures complete { (Rose (S.faults source.old) (S.faults source.new) → ⊥) → (Rose (K.faults sink.old) (K.faults sink.new) → ⊥)

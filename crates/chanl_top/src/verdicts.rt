@@ -1,12 +1,15 @@
 //! What the program answers to a text.
 ghost use Rattle.std.specs.Prelude.{◌≡◌, ◌≤◌, length, IfOk};
 ghost use Rattle.chan_machine.specs.Reading.{ending_as};
-ghost use Rattle.chanl_top.specs.Verdict.{IsTextVerdict, ending_status};
+ghost use Rattle.chanl_top.specs.Verdict.{IsFmtVerdict, IsReplayVerdict, IsTextVerdict, ending_status};
 
+use crate::readings::{Reading, read};
 use crate::status::Status;
 use chan_base::{Bytes, Memory};
 use chan_machine::{Ending, replay};
+use chan_printer::print;
 use chanl_lines::run_text;
+use chanl_words::Command;
 use first_grammar::program;
 use std::alloc::Global;
 
@@ -30,12 +33,41 @@ fn status_of(ending: &Ending) -> Status
     }
 }
 
-/// The answer to a text of at most the greatest length.
-pub(crate) fn answer_to(alloc: Global, text: &[u8]) -> Result<Verdict, Memory>
+/// The canonical spelling of a text.
+fn formatted(alloc: Global, text: &[u8]) -> Result<Verdict, Memory>
     requires { length text.now ≤ 1048576 }
-    ensures { IfOk result (IsTextVerdict text.now) }
+    ensures { IfOk result (IsFmtVerdict text.now) }
 {
-    let Some(program) = program(alloc, text)? else {
+    match read(alloc, text)? {
+        Reading::Tree(_, tree) => {
+            let output = print(alloc, &tree)?;
+            Ok(Verdict {
+                status: Status::Done,
+                output,
+            })
+        }
+        Reading::Refused(output) => Ok(Verdict {
+            status: Status::TextRefused,
+            output,
+        }),
+    }
+}
+
+/// The run of a text.
+fn replayed(alloc: Global, text: &[u8]) -> Result<Verdict, Memory>
+    requires { length text.now ≤ 1048576 }
+    ensures { IfOk result (IsReplayVerdict text.now) }
+{
+    let tokens = match read(alloc, text)? {
+        Reading::Tree(tokens, _) => tokens,
+        Reading::Refused(output) => {
+            return Ok(Verdict {
+                status: Status::TextRefused,
+                output,
+            });
+        }
+    };
+    let Some(program) = program(alloc, &tokens)? else {
         let output = Bytes::from_slice(alloc, b"refused not yet\n")?;
         return Ok(Verdict {
             status: Status::TextRefused,
@@ -48,4 +80,15 @@ pub(crate) fn answer_to(alloc: Global, text: &[u8]) -> Result<Verdict, Memory>
         status: status_of(&replayed.ending),
         output,
     })
+}
+
+/// The answer of a command to a text of at most the greatest length.
+pub(crate) fn answer_to(alloc: Global, command: Command, text: &[u8]) -> Result<Verdict, Memory>
+    requires { length text.now ≤ 1048576 }
+    ensures { IfOk result (IsTextVerdict command text.now) }
+{
+    match command {
+        Command::Fmt => formatted(alloc, text),
+        Command::Replay => replayed(alloc, text),
+    }
 }
