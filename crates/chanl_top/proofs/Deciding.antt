@@ -1,12 +1,12 @@
 -- The cases of the verdict, and what reading says of the bytes that were left.
-use Rattle.std.proofs.Common.{◌≡◌, ℕ, ◌+◌, ◌<◌, ◌≤◌, List, [], ◌++◌, length, codes, map, Option, Some, None, refl, sym, ap, ◌∙◌, subst, arith, inl, inr, ◌⊎◌, append-nil, length-append}
+use Rattle.std.proofs.Common.{◌≡◌, ℕ, ◌+◌, ◌<◌, ◌≤◌, List, ◌++◌, length, codes, Option, Some, None, sym, ap, ◌∙◌, subst, arith, inl, inr, append-nil, length-append}
 use Rattle.std.specs.Io.KnownBytes.{Consumes, IsAtEnd, Appends}
 use Rattle.core_language.specs.Programs.{Program}
 use Rattle.core_language.specs.Rounds.{Run, Entry, run_of}
 use Rattle.core_language.specs.Endings.{Ending, ending_of}
 use Rattle.core_language.specs.Endings as ending
-use Rattle.chan_base.specs.Stream.{Rose, Takes}
-use Rattle.first_grammar.specs.Grammar.{Reads, IsNoProgram}
+use Rattle.chan_base.specs.Stream.{Takes}
+use Rattle.first_grammar.specs.Grammar.{Reads}
 use Rattle.first_grammar.specs.Printing.{program_printing}
 use Rattle.chanl_words.specs.declared.Command.TheVariants as command
 use Rattle.chanl_words.specs.Words.{Admits, IsUsage}
@@ -14,7 +14,7 @@ use Rattle.chanl_lines.specs.Lines.{usage, run_text}
 use Rattle.chanl_top.specs.declared.status.Status.{Status}
 use Rattle.chanl_top.specs.declared.status.Status.TheVariants as status
 use Rattle.chanl_top.specs.declared.verdicts.Verdict.{Verdict}
-use Rattle.chanl_top.specs.Verdict.{refusal, longest, default_rounds, ending_status, ran, replayed, IsTextVerdict, IsReplayVerdict, IsVerdict}
+use Rattle.chanl_top.specs.Verdict.{refusal, longest, default_rounds, ending_status, replayed, IsTextVerdict, IsReplayVerdict, IsVerdict}
 use Rattle.chanl_top.specs.Decided.{IsSettled, Decides, Finishes}
 
 -- all was read, so the bytes are those that were left
