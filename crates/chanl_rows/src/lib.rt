@@ -6,6 +6,8 @@ mod answers;
 #[cfg(test)]
 mod formats;
 #[cfg(test)]
+mod names;
+#[cfg(test)]
 mod replays;
 #[cfg(test)]
 mod spellings;

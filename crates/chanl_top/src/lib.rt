@@ -1,6 +1,10 @@
 //! The top call: it does all that the program does.
 #![tactic(auto)]
 
+ghost use Rattle.std.specs.Prelude.{◌≡◌, ℕ, List};
+ghost use Rattle.chanl_top.specs.declared.verdicts.Verdict.{Verdict};
+ghost use Rattle.chanl_top.specs.Verdict.{IsVerdict};
+
 mod readings;
 mod status;
 mod topmost;
@@ -8,3 +12,8 @@ mod verdicts;
 
 pub use status::Status;
 pub use topmost::top;
+
+/// Words and bytes have one verdict.
+pub fn laws()
+    ensures { (words : List (List ℕ)) (bytes : List ℕ) (v u : Verdict) → IsVerdict words bytes v → IsVerdict words bytes u → v ≡ u }
+{}
