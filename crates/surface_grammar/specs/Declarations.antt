@@ -20,7 +20,7 @@ use Rattle.surface_grammar.specs.declared.words.Word.TheVariants as w
 use Rattle.surface_grammar.specs.declared.parts.Named.{Named}
 use Rattle.surface_grammar.specs.declared.parts.Names.{Names}
 use Rattle.surface_grammar.specs.Grammar.{G, ABlock, cover, word, ◌▷◌, ◌◁◌, ◌⇒◌, yes, repeated, listed, closed, opened, name, names}
-use Rattle.surface_grammar.specs.Terms.{bound, ref, res, param}
+use Rattle.surface_grammar.specs.Terms.{bound, reference, res, param}
 use Rattle.surface_grammar.specs.Operands.{no_names}
 use Rattle.surface_grammar.specs.Statements.{at_most}
 
@@ -30,11 +30,11 @@ use Rattle.surface_grammar.specs.Statements.{at_most}
 
 -- [ "then" ref ]
 unfoldable pub then_ref : G (Option Ref)
-then_ref = g.either (yes (w.Then ∷ [])) (word w.Then ▷ (ref ⇒ Some)) (g.pure None)
+then_ref = g.either (yes (w.Then ∷ [])) (word w.Then ▷ (reference ⇒ Some)) (g.pure None)
 
 -- "then" ref "else" ref
 unfoldable pub two_refs : G (Ref × Ref)
-two_refs = word w.Then ▷ g.seq (λ a b. (a, b)) ref (word w.Else ▷ ref)
+two_refs = word w.Then ▷ g.seq (λ a b. (a, b)) reference (word w.Else ▷ reference)
 
 -- term "<=" term "then" ref "else" ref
 unfoldable pub branch : G Equation
@@ -50,7 +50,7 @@ equation =
 
 -- ref "|" ref
 unfoldable pub alternatives : G (Ref × Ref)
-alternatives = g.seq (λ a b. (a, b)) ref (word w.Bar ▷ ref)
+alternatives = g.seq (λ a b. (a, b)) reference (word w.Bar ▷ reference)
 
 -- NAME "of" ref "|" ref
 unfoldable pub choice : G (Named × (Ref × Ref))

@@ -40,7 +40,7 @@ use Rattle.surface_grammar.specs.declared.parts.Binding.{Binding}
 use Rattle.surface_grammar.specs.declared.parts.Binding.TheVariants as b
 use Rattle.surface_grammar.specs.Words.{name_code}
 use Rattle.surface_grammar.specs.Grammar.{G, ABlock, cover, word, ◌▷◌, ◌◁◌, ◌⇒◌, yes, repeated, listed, closed, opened, name}
-use Rattle.surface_grammar.specs.Terms.{part_of, more_parts, term, number_term, two_terms, term_and_number, bound, ref, shape, res, param}
+use Rattle.surface_grammar.specs.Terms.{part_of, more_parts, term, number_term, two_terms, term_and_number, bound, reference, shape, res, param}
 use Rattle.surface_grammar.specs.Operands.{value, given_values, bracketed, no_names, pat, route, proof}
 
 -- ---- what several statements have
@@ -53,7 +53,7 @@ access = g.seq (λ n (p : Route × _). record { channel = n; route = p.0; proof 
 unfoldable pub target : G Target
 target =
     g.seq (λ n (p : Ref × Route). record { channel = n; proto = p.0; route = p.1 }) name
-    (g.seq (λ r q. (r, q)) (word w.Colon ▷ ref) route)
+    (g.seq (λ r q. (r, q)) (word w.Colon ▷ reference) route)
 
 -- NAME "(" [values] ")" proof
 unfoldable pub call : G Called
@@ -125,7 +125,7 @@ given_target =
 -- "fork" ref .. | "recv1" NAME [path] proof | the above
 unfoldable pub given_end : G Given
 given_end =
-    g.either (yes (w.Fork ∷ [])) (word w.Fork ▷ g.seq v.Fork ref forked)
+    g.either (yes (w.Fork ∷ [])) (word w.Fork ▷ g.seq v.Fork reference forked)
     (g.either (yes (w.Recv1 ∷ [])) (word w.Recv1 ▷ (access ⇒ v.Recv1)) given_target)
 
 -- "mul" "(" term "," term ")" | ("div" | "rem") "(" term "," NUMBER ")" | the above

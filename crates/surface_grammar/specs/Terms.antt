@@ -126,8 +126,8 @@ dual = g.either (yes (w.Tilde ∷ [])) (word w.Tilde ⇒ (λ _. true)) (g.pure f
 unfoldable pub args : G (List Term)
 args = opened w.LeftParen (closed w.RightParen terms)
 
-unfoldable pub ref : G Ref
-ref =
+unfoldable pub reference : G Ref
+reference =
     g.spanned (λ ts (p : Bool × (Named × List Term)). record { dual = p.0; name = p.1.0.name; name_span = p.1.0.span; args = p.1.1; span = cover ts })
     (g.seq (λ d p. (d, p)) dual (g.seq (λ n ts. (n, ts)) name args))
 
@@ -141,7 +141,7 @@ unfoldable pub shape : G Shape
 shape =
     g.either (yes (w.Unit ∷ [])) (word w.Unit ⇒ (λ _. s.Unit))
     (g.either (yes (w.Int ∷ [])) (word w.Int ▷ (one_term ⇒ s.Int))
-    (g.either (yes (w.End ∷ [])) (word w.End ▷ (ref ⇒ s.End))
+    (g.either (yes (w.End ∷ [])) (word w.End ▷ (reference ⇒ s.End))
     (g.either (yes (w.Sum ∷ [])) (word w.Sum ▷ (two_res ⇒ (λ (p : Res × Res). s.Sum p.0 p.1)))
     (two_res ⇒ (λ (p : Res × Res). s.Pair p.0 p.1)))))
 

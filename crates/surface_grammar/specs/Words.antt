@@ -1,5 +1,5 @@
 -- The keywords and marks, and the codes by which a grammar tells tokens apart.
-use Rattle.std.specs.Prelude.{ℕ, Bool, true, false, if◌then◌else◌, ◌==◌, List, [], ◌∷◌, codes}
+use Rattle.std.specs.Prelude.{ℕ, Bool, true, false, if◌then◌else◌, ◌==◌, List, [], ◌∷◌, ◌++◌, codes}
 use Rattle.std.specs.Str.{bytes_eq}
 use Rattle.chan_syntax.specs.declared.identifiers.Span.{Span}
 use Rattle.text_tokens.specs.declared.TokenKind.{TokenKind}
@@ -148,6 +148,10 @@ abbrev pub marks : List Word
 marks =
     w.LeftParen ∷ w.RightParen ∷ w.LeftBracket ∷ w.RightBracket ∷ w.LeftBrace ∷ w.RightBrace ∷ w.Comma ∷ w.Semicolon ∷ w.Colon ∷ w.Equals ∷ w.Tilde ∷ w.Hash ∷ w.Bar ∷ w.Plus ∷ w.Minus ∷ w.Star ∷ w.Less ∷ w.AtMost ∷ w.Arrow ∷ []
 
+-- all words
+abbrev pub words : List Word
+words = keywords ++ marks
+
 -- the code of the word among these that is spelled so
 abbrev pub code_in : List Word → List ℕ → ℕ
 code_in [] text = 60
@@ -157,8 +161,8 @@ code_in (v ∷ vs) text = if bytes_eq (spelling v) text then code_of v else code
 abbrev pub code_by : TokenKind → List ℕ → ℕ
 code_by t.Name text = name_code
 code_by (t.Number n) text = number_code
-code_by t.Keyword text = code_in keywords text
-code_by t.Mark text = code_in marks text
+code_by t.Keyword text = code_in words text
+code_by t.Mark text = code_in words text
 
 -- the code of a token
 unfoldable pub code : Token → ℕ
