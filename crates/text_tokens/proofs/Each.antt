@@ -6,8 +6,9 @@ use Rattle.std.proofs.Math.Nat.{add-sub_cancel_left}
 use Rattle.std.proofs.Math.Seq.{drop-append_seam, take-append_seam}
 use Rattle.chan_syntax.specs.declared.identifiers.Span.{Span}
 use Rattle.text_tokens.specs.declared.TokenKind.{TokenKind}
+use Rattle.text_tokens.specs.declared.TokenKind.TheVariants.{Number}
 use Rattle.text_tokens.specs.Word.{HasForm, IsLongest}
-use Rattle.text_tokens.specs.Text.{Piece, separator, comment, token, bytes_of, text_of, IsCutBefore, span_behind, Token, tokens_behind, HasTokens, text_at, StandsIn, AreInOrder}
+use Rattle.text_tokens.specs.Text.{Piece, separator, comment, token, bytes_of, text_of, IsCutBefore, span_behind, Token, tokens_behind, HasTokens, text_at, StandsIn, AreInOrder, Fault, bad_byte, bad_token, number_too_large, StandsBetween, IsFirstFault, span_of, IsWithin}
 use Rattle.text_tokens.proofs.Forms.{no_form-nil}
 
 -- the pieces behind this front are all that is left of the text
@@ -62,3 +63,20 @@ span_within text t stands =
     let stop = ap (λ (s : Span). s.stop) stands.5 in
     let whole = ap length stands.2 in
     omega (arith, stop, whole, length-append (stands.0 ++ t.text) stands.1, length-append stands.0 t.text)
+
+behind_within : (front word back : List ℕ) (s : Span) → s ≡ span_behind front word → 0 < length word → IsWithin (front ++ (word ++ back)) s
+behind_within front word back s e some =
+    let start = ap (λ (s : Span). s.start) e in
+    let stop = ap (λ (s : Span). s.stop) e in
+    (omega arith, omega (arith, length-append front (word ++ back), length-append word back))
+
+fault_between : (front rest : List ℕ) (f : Fault) → StandsBetween front rest f → IsWithin (front ++ rest) (span_of f)
+fault_between front rest (bad_byte span) stands =
+    rw stands.2 (behind_within front (stands.0 ∷ []) stands.1 span stands.5 (omega arith))
+fault_between front rest (bad_token span) stands =
+    rw stands.2 (behind_within front (stands.0 ∷ []) stands.1 span stands.6 (omega arith))
+fault_between front rest (number_too_large span) stands =
+    rw stands.3 (behind_within front stands.1 stands.2 span stands.7 (longer (Number stands.0) stands.1 stands.4))
+
+pub fault_within : (text : List ℕ) (f : Fault) → IsFirstFault text f → IsWithin text (span_of f)
+fault_within text f first = rw first.2 (fault_between (text_of first.0) first.1 f first.4)

@@ -116,7 +116,7 @@ stands b more =
       ]
     ]
 
-piece_longer : (p : Piece) (rest : List ℕ) → FitsBefore p rest → 0 < length (bytes_of p)
+pub piece_longer : (p : Piece) (rest : List ℕ) → FitsBefore p rest → 0 < length (bytes_of p)
 piece_longer (separator b) rest fits = lit< tt
 piece_longer (comment bytes) rest fits = omega arith
 piece_longer (token kind []) rest fits = absurd (no_form-nil kind fits.0.0)

@@ -9,6 +9,7 @@ use Rattle.text_tokens.specs.Word.{HasForm, IsToken, IsLongest, limit}
 
 -- ---- cuts
 
+-- what a text is made of
 pub data Piece : Type 0 where
   separator : (b : ℕ) → Piece
   -- the bytes behind `//`
@@ -23,9 +24,11 @@ is_line_end b = b == 10
 abbrev pub is_separator : ℕ → Bool
 is_separator b = b == 32 || b == 9 || b == 13 || is_line_end b
 
+-- any byte but LF
 abbrev pub is_in_line : ℕ → Bool
 is_in_line b = not (is_line_end b)
 
+-- the bytes of a piece
 abbrev pub bytes_of : Piece → List ℕ
 bytes_of (separator b) = b ∷ []
 bytes_of (comment bytes) = 47 ∷ 47 ∷ bytes
@@ -100,16 +103,27 @@ AreInOrder at (t ∷ ts) = (at ≤ t.span.start) × (t.span.start < t.span.stop)
 
 -- ---- faults
 
--- Its span is that of one byte, or of all digits of the number.
+-- a fault with its span, which is that of one byte or of all digits of the number
 pub data Fault : Type 0 where
   bad_byte : (span : Span) → Fault
   bad_token : (span : Span) → Fault
   number_too_large : (span : Span) → Fault
 
+-- where a fault stands
+abbrev pub span_of : Fault → Span
+span_of (bad_byte span) = span
+span_of (bad_token span) = span
+span_of (number_too_large span) = span
+
+-- the span is of some bytes of the text
+abbrev pub IsWithin : List ℕ → Span → Type 0
+IsWithin text span = (span.start < span.stop) × (span.stop ≤ length text)
+
 -- no front of the text has the form of a token
 abbrev pub BeginsNoToken : List ℕ → Type 0
 BeginsNoToken text = (kind : TokenKind) (word back : List ℕ) → text ≡ word ++ back → ¬ HasForm kind word
 
+-- the text does not begin with `//`
 abbrev pub BeginsNoComment : List ℕ → Type 0
 BeginsNoComment text = (back : List ℕ) → ¬ (text ≡ 47 ∷ 47 ∷ back)
 
@@ -125,7 +139,7 @@ StandsBetween front rest (number_too_large span) =
     (n : ℕ) × (digits more : List ℕ) × (rest ≡ digits ++ more) × HasForm (Number n) digits × (limit < n) × IsLongest digits more
     × (span ≡ span_behind front digits)
 
--- the text before this fault is cut into pieces
+-- this is the first fault of the text: what stands before it is cut into pieces
 abbrev pub IsFirstFault : List ℕ → Fault → Type 0
 IsFirstFault text fault =
     (pieces : List Piece) × (rest : List ℕ) × (text ≡ text_of pieces ++ rest) × IsCutBefore pieces rest

@@ -6,6 +6,7 @@ use Rattle.std.specs.Str.{bytes_eq}
 use Rattle.text_tokens.specs.declared.TokenKind.{TokenKind}
 use Rattle.text_tokens.specs.declared.TokenKind.TheVariants.{Name, Number, Keyword, Mark}
 
+-- the words that are no names
 abbrev pub keywords : List (List ℕ)
 keywords =
     codes "proto" ∷ codes "fn" ∷ codes "let" ∷ codes "fork" ∷ codes "do" ∷ codes "send1" ∷ codes "recv1" ∷ codes "send"
@@ -14,6 +15,7 @@ keywords =
     ∷ codes "via" ∷ codes "then" ∷ codes "choice" ∷ codes "offer" ∷ codes "of" ∷ codes "as" ∷ codes "int" ∷ codes "unit"
     ∷ codes "end" ∷ codes "sum" ∷ codes "inl" ∷ codes "inr" ∷ codes "mul" ∷ codes "div" ∷ codes "rem" ∷ []
 
+-- the words that are made of other signs
 abbrev pub marks : List (List ℕ)
 marks =
     codes "(" ∷ codes ")" ∷ codes "[" ∷ codes "]" ∷ codes "{" ∷ codes "}" ∷ codes "," ∷ codes ";" ∷ codes ":" ∷ codes "="
@@ -37,9 +39,11 @@ abbrev pub is_digits : List ℕ → Bool
 is_digits [] = false
 is_digits (b ∷ bs) = is_ascii_digit b && list_all is_ascii_digit bs
 
+-- the word is one of the keywords
 abbrev pub is_keyword : List ℕ → Bool
 is_keyword word = list_any (bytes_eq word) keywords
 
+-- the word is one of the marks
 abbrev pub is_mark : List ℕ → Bool
 is_mark word = list_any (bytes_eq word) marks
 

@@ -1,5 +1,5 @@
 use Rattle.text_tokens.proofs.Cuts.{one_list, one_first_fault, never_both}
-use Rattle.text_tokens.proofs.Each.{each_stands, in_order}
+use Rattle.text_tokens.proofs.Each.{each_stands, fault_within, in_order}
 use Rattle.text_tokens.proofs.Whole.{one_of_both}
 use Rattle.text_tokens.proofs.laws.Goals as goal
 
@@ -11,5 +11,6 @@ returns c =
       never_both = never_both;
       always_one = one_of_both;
       longest = each_stands;
+      fault_within = fault_within;
       in_order = in_order;
     }

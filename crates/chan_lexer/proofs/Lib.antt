@@ -1,0 +1,4 @@
+pub mod Fronts
+pub mod Within
+pub mod Turns
+pub mod Answered
