@@ -65,9 +65,11 @@ pub more_found : (n : ℕ) (start ts mid rest : List Token) (x : Named) (end at 
 unfolding name name_at
 more_found n start ts mid rest x end at ns ns' ss ss' below i next e h nn sn =
     let push : paired ns' ss' ≡ paired ns ss ++ x ∷ [] = ap (λ v. paired v ss') nn ∙ ap (λ v. paired (ns ++ x.name ∷ []) v) sn ∙ paired_more ns ss x.name x.span i.1 in
-    let more : length ns' ≡ length ss' = omega (arith, ap length nn, ap length sn, length-append ns (x.name ∷ []), length-append ss (x.span ∷ []), i.1) in
-    (i.0 ∙ ap (λ o. and_then o (λ xs r. Got (parted xs) r))
-        (turn_on n (yes (w.Comma ∷ [])) (word w.Comma ▷ name) end at (paired ns ss) (paired ns' ss') ts rest x below refl next (comma_item n name ts mid rest x e h) push), more)
+    let more : length ns' ≡ length ss' = omega (arith, ap length nn, ap length sn, length-append ns (x.name ∷ []), length-append ss (x.span ∷ []), i.1) in (
+      i.0 ∙ ap (λ o. and_then o (λ xs r. Got (parted xs) r))
+          (turn_on n (yes (w.Comma ∷ [])) (word w.Comma ▷ name) end at (paired ns ss) (paired ns' ss') ts rest x below refl next (comma_item n name ts mid rest x e h) push),
+      more,
+    )
 
 -- no more comes next
 pub all_found : (n : ℕ) (start ts : List Token) (end at : ℕ) (ns : List (List ℕ)) (ss : List Span) → at < end → Found n start (end - at) ns ss ts

@@ -57,9 +57,9 @@ gather_front : {A : Type 0} (fs : List ℕ) (p : Parser Token A) (n : ℕ) (x : 
 gather_front fs p zero x found ts = refl
 gather_front fs p (suc n) x found ts =
     ap (λ o. cond (next_in code fs ts) o (Got (x ∷ found) ts))
-      (then_same (p ts) (λ y r. gather code fs p n (x ∷ (found ++ y ∷ [])) r) (λ y r. and_then (gather code fs p n (found ++ y ∷ []) r) (λ xs s. Got (x ∷ xs) s))
-          (λ y r. gather_front fs p n x (found ++ y ∷ []) r)
-        ∙ sym (then_then (p ts) (λ y r. gather code fs p n (found ++ y ∷ []) r) (λ xs s. Got (x ∷ xs) s)))
+    (then_same (p ts) (λ y r. gather code fs p n (x ∷ (found ++ y ∷ [])) r) (λ y r. and_then (gather code fs p n (found ++ y ∷ []) r) (λ xs s. Got (x ∷ xs) s))
+    (λ y r. gather_front fs p n x (found ++ y ∷ []) r)
+    ∙ sym (then_then (p ts) (λ y r. gather code fs p n (found ++ y ∷ []) r) (λ xs s. Got (x ∷ xs) s)))
     ∙ sym (choice (next_in code fs ts) (and_then (p ts) (λ y r. gather code fs p n (found ++ y ∷ []) r)) (Got found ts) (λ xs s. Got (x ∷ xs) s))
 
 -- items between commas, of which the first is read

@@ -1,7 +1,5 @@
 -- What a cursor over the tokens answers.
-use Rattle.std.specs.Prelude.{◌≡◌, ℕ, zero, suc, ◌-◌, Bool, true, false, if◌then◌else◌, ◌==◌, List, [], ◌∷◌, take, drop, Result, Ok, Err}
-use Rattle.chan_syntax.specs.declared.identifiers.Span.{Span}
-use Rattle.chan_lexer.specs.declared.Token.{Token as Plain}
+use Rattle.std.specs.Prelude.{◌≡◌, ℕ, zero, suc, Bool, true, false, if◌then◌else◌, ◌==◌, List, [], ◌∷◌, Result, Ok, Err}
 use Rattle.text_tokens.specs.Text.{Token}
 use Rattle.grammar_laws.specs.Grammar.{Outcome, Got, Bad, Deep, and_then, gather, next_in, one_at}
 use Rattle.surface_grammar.specs.declared.words.Word.{Word}
@@ -13,14 +11,6 @@ use Rattle.surface_grammar.specs.Grammar.{G, yes, name, number, letters}
 use Rattle.surface_grammar.specs.Language.{At}
 use Rattle.operand_parser.specs.declared.cursor.Stop.{Stop}
 use Rattle.operand_parser.specs.declared.cursor.Stop.TheVariants.{Unexpected, TooDeep, Memory}
-
--- the slice of the source at the place
-unfoldable pub text_at : List ℕ → Span → List ℕ
-text_at source span = take (span.stop - span.start) (drop span.start source)
-
--- the token of the lexer, with its text
-abbrev pub with_text : List ℕ → Plain → Token
-with_text source t = record { kind = t.kind; text = text_at source t.span; span = t.span }
 
 -- the word comes next
 unfoldable pub sees : Word → List Token → Bool

@@ -7,9 +7,10 @@ ghost use Rattle.surface_grammar.specs.Grammar as grammar;
 ghost use Rattle.surface_grammar.specs.Grammar.{cover};
 ghost use Rattle.operand_parser.specs.Syntax as spec;
 ghost use Rattle.surface_grammar.specs.Words.{code, code_of, name_code, number_code};
-ghost use Rattle.operand_parser.specs.Syntax.{Answers, text_at, with_text};
+ghost use Rattle.chan_lexer.specs.Spelled.{spelled, spelled_token};
+ghost use Rattle.operand_parser.specs.Syntax.{Answers};
 
-use chan_lexer::{Token, TokenKind};
+use chan_lexer::{Token, TokenKind, text_at};
 use chan_syntax::{Ident, Letter, Path, Span};
 use std::alloc::{AllocError, Global};
 use std::marker::Model;
@@ -42,38 +43,28 @@ pub struct Cursor<'a> {
 }
 
 impl<'a> Model for Cursor<'a> {
-    ghost use Rattle.std.specs.Prelude.{List, map};
+    ghost use Rattle.std.specs.Prelude.{List};
     ghost use Rattle.text_tokens.specs.Text.{Token};
-    ghost use Rattle.operand_parser.specs.Syntax.{with_text};
+    ghost use Rattle.chan_lexer.specs.Spelled.{spelled};
 
     ghost Value = { List Token };
 
-    ghost view = { λ c. map (with_text c.source.now) c.rest.now };
-}
-
-#[tactic(auto, unfolding(crate::specs::Syntax::text_at))]
-fn slice(source: &[u8], span: Span) -> &[u8]
-    ensures { result.now ≡ text_at source.now span }
-{
-    let start = span.start as usize;
-    let behind = &source[start.min(source.len())..];
-    let len = (span.stop as usize).saturating_sub(start);
-    &behind[..len.min(behind.len())]
+    ghost view = { λ c. spelled c.source.now c.rest.now };
 }
 
 #[tactic(auto, using(surface_grammar::proofs::WordCodes::word_code, surface_grammar::proofs::WordCodes::not_name, surface_grammar::proofs::WordCodes::not_number), unfolding(surface_grammar::specs::Words::code))]
 fn is_word(source: &[u8], token: Token, word: Word) -> bool
-    ensures { result ≡ (code (with_text source.now token) == code_of word) }
+    ensures { result ≡ (code (spelled_token source.now token) == code_of word) }
 {
     match token.kind {
-        TokenKind::Keyword | TokenKind::Mark => slice(source, token.span) == spelling(word),
+        TokenKind::Keyword | TokenKind::Mark => text_at(source, token.span) == spelling(word),
         TokenKind::Name | TokenKind::Number(_) => false,
     }
 }
 
 impl<'a> Cursor<'a> {
     pub fn new(alloc: Global, source: &'a [u8], rest: &'a [Token]) -> Cursor<'a>
-        ensures { result ≡ map (with_text source.now) rest.now }
+        ensures { result ≡ spelled source.now rest.now }
     {
         Cursor {
             alloc,
@@ -204,7 +195,7 @@ impl<'a> Cursor<'a> {
                 if !is_name(self.source, *first) {
                     return Err(Stop::Unexpected);
                 }
-                let name = Ident::from_slice(self.alloc, slice(self.source, first.span))?;
+                let name = Ident::from_slice(self.alloc, text_at(self.source, first.span))?;
                 self.rest = rest;
                 Ok(Named {
                     name,
@@ -249,7 +240,7 @@ impl<'a> Cursor<'a> {
                 if !is_name(self.source, *first) {
                     return Err(Stop::Unexpected);
                 }
-                let text = slice(self.source, first.span);
+                let text = text_at(self.source, first.span);
                 if !are_letters(text) {
                     return Err(Stop::Unexpected);
                 }
@@ -268,21 +259,21 @@ impl<'a> Cursor<'a> {
 const LIMIT: u64 = 9_223_372_036_854_775_807;
 
 fn is_among(source: &[u8], token: Token, words: &[Word]) -> bool
-    ensures { result ≡ list_any (λ word. code (with_text source.now token) == code_of word) words.now }
+    ensures { result ≡ list_any (λ word. code (spelled_token source.now token) == code_of word) words.now }
 {
     words.iter().any(|word| is_word(source, token, *word))
 }
 
 #[tactic(auto, using(surface_grammar::proofs::WordCodes::other_not_name), unfolding(surface_grammar::specs::Words::code))]
 fn is_name(source: &[u8], token: Token) -> bool
-    ensures { result ≡ (code (with_text source.now token) == name_code) }
+    ensures { result ≡ (code (spelled_token source.now token) == name_code) }
 {
     matches!(token.kind, TokenKind::Name)
 }
 
 #[tactic(auto, using(surface_grammar::proofs::WordCodes::other_not_number), unfolding(surface_grammar::specs::Words::code))]
 fn is_number(source: &[u8], token: Token) -> bool
-    ensures { result ≡ (code (with_text source.now token) == number_code) }
+    ensures { result ≡ (code (spelled_token source.now token) == number_code) }
 {
     matches!(token.kind, TokenKind::Number(_))
 }
@@ -307,14 +298,18 @@ fn path(alloc: Global, text: &[u8]) -> Result<Path, AllocError>
 {
     let mut path = Path::new(alloc);
     for b in text {
-        path.push(if *b == b'l' { Letter::Left } else { Letter::Right })?;
+        path.push(if *b == b'l' {
+            Letter::Left
+        } else {
+            Letter::Right
+        })?;
     }
     Ok(path)
 }
 
 #[tactic(auto, unfolding(surface_grammar::specs::Grammar::cover))]
 fn span_of(used: &[Token]) -> Span
-    ensures { (source : List ℕ) → result ≡ cover (map (with_text source) used.now) }
+    ensures { (source : List ℕ) → result ≡ cover (spelled source used.now) }
 {
     let Some(first) = used.first() else {
         return NOWHERE;

@@ -6,7 +6,7 @@ ghost use Rattle.surface_grammar.specs.Terms as spec;
 ghost use Rattle.operand_parser.specs.Syntax.{Answers};
 
 use crate::cursor::{Cursor, Stop};
-use crate::names::names;
+use crate::name_lists::names;
 use crate::terms::{one_term, reference, term};
 use chan_syntax::{Bound, Limit, Limits, Param, Relation, Res, Shape};
 use sqlite_items::{Boxed, Items};

@@ -6,7 +6,7 @@ ghost use Rattle.surface_grammar.specs.Operands as spec;
 ghost use Rattle.operand_parser.specs.Syntax.{Answers};
 
 use crate::cursor::{Cursor, Stop};
-use crate::names::names;
+use crate::name_lists::names;
 use crate::terms::term;
 use chan_syntax::{Pat, Supplies, Supply};
 use sqlite_items::{Boxed, Items};

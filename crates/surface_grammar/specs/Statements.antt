@@ -1,5 +1,5 @@
 -- Blocks, their statements and how they end.
-use Rattle.std.specs.Prelude.{true, false, List, [], ◌∷◌, Some}
+use Rattle.std.specs.Prelude.{Bool, true, false, List, [], ◌∷◌, Some}
 use Rattle.chan_syntax.specs.declared.identifiers.Span.{Span}
 use Rattle.chan_syntax.specs.declared.linear.Term.{Term}
 use Rattle.chan_syntax.specs.declared.linear.Bound.{Bound}
@@ -41,7 +41,7 @@ use Rattle.surface_grammar.specs.declared.parts.Binding.TheVariants as b
 use Rattle.surface_grammar.specs.Words.{name_code}
 use Rattle.surface_grammar.specs.Grammar.{G, ABlock, cover, word, ◌▷◌, ◌◁◌, ◌⇒◌, yes, repeated, listed, closed, opened, name}
 use Rattle.surface_grammar.specs.Terms.{part_of, more_parts, term, number_term, two_terms, term_and_number, bound, reference, shape, res, param}
-use Rattle.surface_grammar.specs.Operands.{value, given_values, bracketed, no_names, pat, route, proof}
+use Rattle.surface_grammar.specs.Operands.{value, given_values, bracketed, no_names, pat_of, pat, route, proof}
 
 -- ---- what several statements have
 
@@ -145,23 +145,39 @@ behind_name =
     g.either (yes (w.LeftBracket ∷ [])) (g.seq (λ ns x. record { names = ns; given = x }) bracketed (word w.Equals ▷ given_to_pattern))
     (word w.Equals ▷ (given ⇒ (λ x. record { names = no_names; given = x })))
 
--- the statement of "let" NAME and what it is given
+-- the statement of "let" NAME and what is forked
 abbrev pub let_fork : Named → Ref → Forked → Span → Stmt
 let_fork n r (f.Call c) span = s.Fork n.name n.span r c.func.name c.func.span c.values c.proof span
 let_fork n r (f.Block c) span = s.ForkDo n.name n.span r c.func.name c.func.span c.bound c.param c.starts c.proof c.block span
 
--- the statement of "let" NAME, names in brackets, and what the pattern is given
+-- of "let" pat and a call
+abbrev pub let_call : Pat → Called → Span → Stmt
+let_call x c span = s.Call x c.func.name c.func.span c.values c.proof span
+
+-- of "let" pat and what is received
+abbrev pub let_recv1 : Pat → Access → Span → Stmt
+let_recv1 x a span = s.Recv1 x a.channel.name a.channel.span a.route.path a.route.span a.proof span
+
+-- of "let" NAME and what is sent
+abbrev pub let_send : Named → Target → Supply → Proof → Span → Stmt
+let_send n a x q span = s.Send n.name n.span a.channel.name a.channel.span a.proto a.route.path a.route.span x q span
+
+-- of "let" NAME and what is chosen
+abbrev pub let_choose : Bool → Named → Target → Proof → Span → Stmt
+let_choose right n a q span = s.Choose right n.name n.span a.channel.name a.channel.span a.proto a.route.path a.route.span q span
+
+-- of "let" NAME, names in brackets, and what they are given
 abbrev pub let_given : Named → Names → Given → Span → Stmt
 let_given n ns (v.Term x) span = s.Let n.name n.span x span
 let_given n ns (v.Mul a b) span = s.Mul n.name n.span a b span
 let_given n ns (v.Div a d) span = s.Div n.name n.span a d.value d.span span
 let_given n ns (v.Rem a d) span = s.Rem n.name n.span a d.value d.span span
-let_given n ns (v.Call c) span = s.Call (record { name = n.name; name_span = n.span; names = ns.names; names_spans = ns.spans }) c.func.name c.func.span c.values c.proof span
+let_given n ns (v.Call c) span = let_call (pat_of n ns) c span
 let_given n ns (v.Fork r c) span = let_fork n r c span
-let_given n ns (v.Recv1 a) span = s.Recv1 (record { name = n.name; name_span = n.span; names = ns.names; names_spans = ns.spans }) a.channel.name a.channel.span a.route.path a.route.span a.proof span
-let_given n ns (v.Send a x q) span = s.Send n.name n.span a.channel.name a.channel.span a.proto a.route.path a.route.span x q span
-let_given n ns (v.Left a q) span = s.Choose false n.name n.span a.channel.name a.channel.span a.proto a.route.path a.route.span q span
-let_given n ns (v.Right a q) span = s.Choose true n.name n.span a.channel.name a.channel.span a.proto a.route.path a.route.span q span
+let_given n ns (v.Recv1 a) span = let_recv1 (pat_of n ns) a span
+let_given n ns (v.Send a x q) span = let_send n a x q span
+let_given n ns (v.Left a q) span = let_choose false n a q span
+let_given n ns (v.Right a q) span = let_choose true n a q span
 
 -- ---- "let" "(" pat "," pat ")" [ "[" names "]" ] "=" "recv" NAME [path] proof | "let" "(" pat "," pat ")" "=" NAME
 -- The two are read as one up to the names or to what follows "=".
@@ -253,13 +269,21 @@ if_last =
     g.spanned (λ ts (p : (Term × Term) × (Block × Block)). l.If p.0.0 p.0.1 p.1.0 p.1.1 (cover ts))
     (word w.If ▷ g.seq (λ c b. (c, b)) at_most two_blocks)
 
--- "inl" pat block, whose word is open to the end of the pattern
-unfoldable pub left_arm : G (Pat × Block)
-left_arm = g.seq (λ q b. (q, b)) (opened w.Inl pat) (g.call ABlock (λ b. b))
+-- "inl" pat, where the word is open to the end of the pattern
+unfoldable pub left_pat : G Pat
+left_pat = opened w.Inl pat
 
--- "inr" pat block, whose word is open to the end of the pattern
+-- "inr" pat, where the word is open to the end of the pattern
+unfoldable pub right_pat : G Pat
+right_pat = opened w.Inr pat
+
+-- "inl" pat block
+unfoldable pub left_arm : G (Pat × Block)
+left_arm = g.seq (λ q b. (q, b)) left_pat (g.call ABlock (λ b. b))
+
+-- "inr" pat block
 unfoldable pub right_arm : G (Pat × Block)
-right_arm = g.seq (λ q b. (q, b)) (opened w.Inr pat) (g.call ABlock (λ b. b))
+right_arm = g.seq (λ q b. (q, b)) right_pat (g.call ABlock (λ b. b))
 
 -- "{" "inl" pat block "inr" pat block "}"
 unfoldable pub arms : G ((Pat × Block) × (Pat × Block))
