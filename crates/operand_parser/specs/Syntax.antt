@@ -1,5 +1,6 @@
 -- What a cursor over the tokens answers.
-use Rattle.std.specs.Prelude.{◌≡◌, ℕ, zero, suc, Bool, true, false, if◌then◌else◌, ◌==◌, List, [], ◌∷◌, Result, Ok, Err}
+use Rattle.std.specs.Prelude.{◌≡◌, ℕ, zero, suc, Bool, true, false, if◌then◌else◌, ◌==◌, List, [], ◌∷◌, Option, Some, None, Result, Ok, Err}
+use Rattle.chan_syntax.specs.declared.identifiers.Span.{Span}
 use Rattle.text_tokens.specs.Text.{Token}
 use Rattle.grammar_laws.specs.Grammar.{Outcome, Got, Bad, Deep, and_then, gather, next_in, one_at}
 use Rattle.surface_grammar.specs.declared.words.Word.{Word}
@@ -56,3 +57,8 @@ number_at ts = At 0 number ts
 -- the letters of a path are taken
 unfoldable pub letters_at : List Token → Outcome Token Route
 letters_at ts = At 0 letters ts
+
+-- the place of the token that comes next
+abbrev pub next_span : List Token → Option Span
+next_span [] = None
+next_span (t ∷ ts) = Some t.span

@@ -84,6 +84,16 @@ impl<'a> Cursor<'a> {
         self.rest.len()
     }
 
+    /// The place of the token that comes next.
+    pub fn next_span(&self) -> Option<Span>
+        ensures { result ≡ spec.next_span self.now }
+    {
+        match self.rest.split_first() {
+            None => None,
+            Some((first, _)) => Some(first.span),
+        }
+    }
+
     /// The same place.
     pub fn mark(&self) -> Cursor<'a>
         ensures { result ≡ self.now }
