@@ -6,6 +6,8 @@ use Rattle.core_language.specs.Rounds.{Run, Entry, run_of}
 use Rattle.core_language.specs.Endings.{Ending, ending_of}
 use Rattle.core_language.specs.Endings as ending
 use Rattle.chan_base.specs.Stream.{Rose, Takes}
+use Rattle.chan_syntax.specs.declared.surface_tree.Surface.{Surface}
+use Rattle.surface_grammar.specs.Language.{Derives}
 use Rattle.first_grammar.specs.Grammar.{Reads, IsNoProgram}
 use Rattle.first_grammar.specs.Printing.{program_printing}
 use Rattle.text_tokens.specs.Text.{Token, HasTokens}
@@ -52,9 +54,9 @@ settled_fmt text v (inl (tree, reads, is)) = subst (λ (u : Verdict). IsSettled 
 settled_fmt text v (inr (line, unread, is)) = subst (λ (u : Verdict). IsSettled u.status) (sym is) tt
 
 settled_replay : (text : List ℕ) (v : Verdict) → IsReplayVerdict text v → IsSettled v.status
-settled_replay text v (inl (tokens, has, ns, reads, is)) =
+settled_replay text v (inl (tokens, has, tree, ns, reads, is)) =
     subst (λ (u : Verdict). IsSettled u.status) (sym is) (settled_ending (ending_of (program_printing ns) (run_of (program_printing ns) default_rounds).config))
-settled_replay text v (inr (inl (tokens, has, none, tree, is))) = subst (λ (u : Verdict). IsSettled u.status) (sym is) tt
+settled_replay text v (inr (inl (tokens, has, tree, none, is))) = subst (λ (u : Verdict). IsSettled u.status) (sym is) tt
 settled_replay text v (inr (inr (line, unread, is))) = subst (λ (u : Verdict). IsSettled u.status) (sym is) tt
 
 settled_text : (command : Command) (text : List ℕ) (v : Verdict) → IsTextVerdict command text v → IsSettled v.status
@@ -65,15 +67,15 @@ settled_text command.Replay text v is = settled_replay text v is
 
 -- the run of the program that the tokens are
 pub text_run : (text : List ℕ) (tokens : List Token) (program : Program) (run : Run) (entries : List Entry) (e : Ending) (s : Status) (output : List ℕ)
-    → HasTokens text tokens → (ns : List ℕ) × Reads tokens ns × (program ≡ program_printing ns) → run ≡ run_of program default_rounds → entries ≡ run.entries
+    → HasTokens text tokens → (tree : Surface) × Derives tree tokens → (ns : List ℕ) × Reads tokens ns × (program ≡ program_printing ns) → run ≡ run_of program default_rounds → entries ≡ run.entries
     → e ≡ ending_of program (run_of program default_rounds).config → s ≡ ending_status e → output ≡ run_text entries e
     → IsReplayVerdict text (record { status = s; output = output })
-text_run text tokens program run entries e s output has (ns, reads, same) runs are ends is writes =
+text_run text tokens program run entries e s output has derived (ns, reads, same) runs are ends is writes =
     let settled : s ≡ (replayed program default_rounds).status = is ∙ ap ending_status ends in
     let written : output ≡ (replayed program default_rounds).output =
     writes ∙ ap (λ xs. run_text xs e) (are ∙ ap (λ (r : Run). r.entries) runs) ∙ ap (run_text (run_of program default_rounds).entries) ends in
     let whole : record { status = s; output = output } ≡ replayed program default_rounds = λ i. record { status = settled i; output = written i } in
-    inl (tokens, has, ns, reads, whole ∙ ap (λ p. replayed p default_rounds) same)
+    inl (tokens, has, derived, ns, reads, whole ∙ ap (λ p. replayed p default_rounds) same)
 
 pub decides_text : (command : Command) (left new : Option (List ℕ)) (before now : ℕ) (v : Verdict) (text bytes : List ℕ) → text ≡ bytes → IsTextVerdict command text v
     → Consumes left new bytes → IsAtEnd new → length bytes ≤ longest → Decides (IsCommandVerdict command) left before now v

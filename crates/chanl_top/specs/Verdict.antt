@@ -103,8 +103,9 @@ IsFmtVerdict text verdict =
 -- the run of a program that prints numbers; other texts of the grammar can't be run yet
 abbrev pub IsReplayVerdict : List ℕ → Verdict → Type 0
 IsReplayVerdict text verdict =
-    ((tokens : List Token) × HasTokens text tokens × (numbers : List ℕ) × Reads tokens numbers × (verdict ≡ replayed (program_printing numbers) default_rounds))
-    ⊎ (((tokens : List Token) × HasTokens text tokens × IsNoProgram tokens × ((tree : Surface) × Derives tree tokens) × (verdict ≡ refusal (codes "not yet")))
+    ((tokens : List Token) × HasTokens text tokens × ((tree : Surface) × Derives tree tokens) × (numbers : List ℕ) × Reads tokens numbers
+    × (verdict ≡ replayed (program_printing numbers) default_rounds))
+    ⊎ (((tokens : List Token) × HasTokens text tokens × ((tree : Surface) × Derives tree tokens) × IsNoProgram tokens × (verdict ≡ refusal (codes "not yet")))
     ⊎ ((line : List ℕ) × IsUnread text line × (verdict ≡ line_refusal line)))
 
 abbrev pub IsTextVerdict : Command → List ℕ → Verdict → Type 0
