@@ -3,16 +3,15 @@ use Rattle.std.proofs.Common.{◌≡◌, ℕ, ◌+◌, ◌<◌, ◌≤◌, List,
 use Rattle.chan_syntax.specs.declared.surface_tree.Surface.{Surface}
 use Rattle.text_tokens.specs.Text.{Token, HasTokens, Fault, IsFirstFault}
 use Rattle.text_tokens.proofs.Cuts.{one_list, one_first_fault, never_both}
-use Rattle.grammar_laws.proofs.OneFault.{tree_unexpected, one_unexpected, one_too_deep, unexpected_or_deep}
-use Rattle.grammar_laws.proofs.Knot.{one_tree, tree_too_deep}
+use Rattle.grammar_laws.proofs.Faults.{one_unexpected, one_too_deep}
+use Rattle.grammar_laws.proofs.Faults.{never_both as never_both_faults}
+use Rattle.grammar_laws.proofs.Knot.{one_tree}
 use Rattle.surface_grammar.specs.Declarations.{program}
 use Rattle.surface_grammar.specs.Language.{surface, max_levels, Derives}
 use Rattle.surface_grammar.proofs.Tests.{names_pass, program_passes, samples}
 use Rattle.surface_spelling.specs.Spelling.{spelling}
-use Rattle.chan_parser.specs.declared.parse_fault.ParseFault.{ParseFault}
-use Rattle.chan_parser.specs.declared.parse_fault.ParseFault.TheVariants as parse_fault
-use Rattle.chan_parser.specs.Parse.{IsMemory, place_of}
-use Rattle.chan_parser.specs.Parse.{IsFirstFault as IsParseFault}
+use Rattle.chan_parser.specs.Parse as parse
+use Rattle.chan_parser.proofs.Outcomes.{no_fault}
 use Rattle.chanl_words.specs.declared.Command.{Command}
 use Rattle.chanl_words.specs.declared.Command.TheVariants as command
 use Rattle.chanl_words.specs.Words.{name_of, Admits}
@@ -25,36 +24,28 @@ use Rattle.chanl_top.specs.Verdict.{default_rounds, replayed, lexing_line, gramm
 
 -- ---- a text is read as one tree, or refused by one line
 
-same_fault : (text : List ℕ) (ts : List Token) (e f : ParseFault) → IsParseFault text ts e → IsParseFault text ts f → ¬ IsMemory e → ¬ IsMemory f → e ≡ f
-same_fault text ts (parse_fault.Unexpected a) (parse_fault.Unexpected b) (r, first, is) (s, second, is_too) no_memory none =
-    ap parse_fault.Unexpected (is ∙ ap (place_of text) (one_unexpected surface (max_levels + 1) program ts r s first second) ∙ sym is_too)
-same_fault text ts (parse_fault.Unexpected a) (parse_fault.TooDeep b) (r, first, is) (s, second, is_too) no_memory none =
-    absurd (unexpected_or_deep surface (max_levels + 1) program ts r s first second)
-same_fault text ts (parse_fault.TooDeep a) (parse_fault.Unexpected b) (r, first, is) (s, second, is_too) no_memory none =
-    absurd (unexpected_or_deep surface (max_levels + 1) program ts s r second first)
-same_fault text ts (parse_fault.TooDeep a) (parse_fault.TooDeep b) (r, first, is) (s, second, is_too) no_memory none =
-    ap parse_fault.TooDeep (is ∙ ap (place_of text) (one_too_deep surface (max_levels + 1) program ts r s first second) ∙ sym is_too)
-same_fault text ts parse_fault.Memory f first second no_memory none = absurd (no_memory tt)
-same_fault text ts (parse_fault.Unexpected a) parse_fault.Memory first second no_memory none = absurd (none tt)
-same_fault text ts (parse_fault.TooDeep a) parse_fault.Memory first second no_memory none = absurd (none tt)
+same_fault : (text : List ℕ) (ts : List Token) (e f : parse.Fault) → parse.IsFirstFault text ts e → parse.IsFirstFault text ts f → e ≡ f
+same_fault text ts (parse.unexpected a) (parse.unexpected b) (r, first, is) (s, second, is_too) =
+    ap parse.unexpected (is ∙ ap (parse.place_of text) (one_unexpected surface program (max_levels + 1) ts r s first second) ∙ sym is_too)
+same_fault text ts (parse.unexpected a) (parse.too_deep b) (r, first, is) (s, second, is_too) =
+    absurd (never_both_faults surface program (max_levels + 1) ts r s first second)
+same_fault text ts (parse.too_deep a) (parse.unexpected b) (r, first, is) (s, second, is_too) =
+    absurd (never_both_faults surface program (max_levels + 1) ts s r second first)
+same_fault text ts (parse.too_deep a) (parse.too_deep b) (r, first, is) (s, second, is_too) =
+    ap parse.too_deep (is ∙ ap (parse.place_of text) (one_too_deep surface program (max_levels + 1) ts r s first second) ∙ sym is_too)
 
 one_line : (text line other : List ℕ) → IsUnread text line → IsUnread text other → line ≡ other
 one_line text line other (inl (f, first, is)) (inl (g, second, is_too)) = is ∙ ap lexing_line (one_first_fault text f g first second) ∙ sym is_too
 one_line text line other (inl (f, first, is)) (inr (ts, has, rest)) = absurd (never_both text ts f has first)
 one_line text line other (inr (ts, has, rest)) (inl (f, first, is)) = absurd (never_both text ts f has first)
-one_line text line other (inr (ts, has, e, first, no_memory, is)) (inr (us, has_too, f, second, none, is_too)) =
-    let moved = subst (λ xs. IsParseFault text xs f) (one_list text us ts has_too has) second in
-    is ∙ ap grammar_line (same_fault text ts e f first moved no_memory none) ∙ sym is_too
-
-no_fault : (text : List ℕ) (tree : Surface) (ts : List Token) (e : ParseFault) → Derives tree ts → IsParseFault text ts e → ¬ IsMemory e → ⊥
-no_fault text tree ts (parse_fault.Unexpected a) derives (r, first, is) no_memory = tree_unexpected surface (max_levels + 1) program ts r tree (max_levels, derives) first
-no_fault text tree ts (parse_fault.TooDeep a) derives (r, first, is) no_memory = tree_too_deep surface names_pass samples max_levels program program_passes ts r tree derives first
-no_fault text tree ts parse_fault.Memory derives first no_memory = no_memory tt
+one_line text line other (inr (ts, has, e, first, is)) (inr (us, has_too, f, second, is_too)) =
+    let moved = subst (λ xs. parse.IsFirstFault text xs f) (one_list text us ts has_too has) second in
+    is ∙ ap grammar_line (same_fault text ts e f first moved) ∙ sym is_too
 
 read_or_refused : (text line : List ℕ) (tree : Surface) → ReadsAs text tree → IsUnread text line → ⊥
 read_or_refused text line tree (ts, has, derives) (inl (f, first, is)) = never_both text ts f has first
-read_or_refused text line tree (ts, has, derives) (inr (us, has_too, e, first, no_memory, is)) =
-    no_fault text tree us e (subst (λ xs. Derives tree xs) (one_list text ts us has has_too) derives) first no_memory
+read_or_refused text line tree (ts, has, derives) (inr (us, has_too, e, first, is)) =
+    no_fault text us tree (subst (λ xs. Derives tree xs) (one_list text ts us has has_too) derives) e first
 
 one_surface : (text : List ℕ) (s t : Surface) → ReadsAs text s → ReadsAs text t → s ≡ t
 one_surface text s t (ts, has, derives) (us, has_too, derives_too) =

@@ -14,10 +14,7 @@ use Rattle.chan_syntax.specs.declared.surface_tree.Surface.{Surface}
 use Rattle.text_tokens.specs.Text.{Token, HasTokens, Fault, bad_byte, bad_token, number_too_large, IsFirstFault}
 use Rattle.surface_grammar.specs.Language.{Derives}
 use Rattle.surface_spelling.specs.Spelling.{spelling}
-use Rattle.chan_parser.specs.declared.parse_fault.ParseFault.{ParseFault}
-use Rattle.chan_parser.specs.declared.parse_fault.ParseFault.TheVariants as parse_fault
-use Rattle.chan_parser.specs.Parse.{IsMemory}
-use Rattle.chan_parser.specs.Parse.{IsFirstFault as IsParseFault}
+use Rattle.chan_parser.specs.Parse as parse
 use Rattle.chanl_top.specs.declared.status.Status.{Status}
 use Rattle.chanl_top.specs.declared.status.Status.TheVariants as status
 use Rattle.chanl_top.specs.declared.verdicts.Verdict.{Verdict}
@@ -78,16 +75,15 @@ lexing_line (bad_token span) = refused_at span (codes "bad token")
 lexing_line (number_too_large span) = refused_at span (codes "number too large")
 
 -- why tokens have no tree
-abbrev pub grammar_line : ParseFault → List ℕ
-grammar_line (parse_fault.Unexpected span) = refused_at span (codes "unexpected")
-grammar_line (parse_fault.TooDeep span) = refused_at span (codes "too deep")
-grammar_line parse_fault.Memory = []
+abbrev pub grammar_line : parse.Fault → List ℕ
+grammar_line (parse.unexpected span) = refused_at span (codes "unexpected")
+grammar_line (parse.too_deep span) = refused_at span (codes "too deep")
 
 -- the text has no tokens, or they have no tree, and the line says why
 abbrev pub IsUnread : List ℕ → List ℕ → Type 0
 IsUnread text line =
     ((fault : Fault) × IsFirstFault text fault × (line ≡ lexing_line fault))
-    ⊎ ((tokens : List Token) × HasTokens text tokens × (fault : ParseFault) × IsParseFault text tokens fault × (¬ IsMemory fault) × (line ≡ grammar_line fault))
+    ⊎ ((tokens : List Token) × HasTokens text tokens × (fault : parse.Fault) × parse.IsFirstFault text tokens fault × (line ≡ grammar_line fault))
 
 abbrev pub line_refusal : List ℕ → Verdict
 line_refusal line = record { status = status.TextRefused; output = line }

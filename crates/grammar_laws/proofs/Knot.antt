@@ -14,7 +14,7 @@ use Rattle.grammar_laws.proofs.More.{guarded_map, named_more, bound, BelowAny}
 use Rattle.grammar_laws.specs.Levels.{Opening, Opens, Level}
 use Rattle.grammar_laws.specs.Laws.{OpensLevel}
 use Rattle.grammar_laws.proofs.Levels.{DeepIn, deep, deep_behind}
-use Rattle.grammar_laws.specs.Laws.{NoneOpens, IsTooDeep}
+use Rattle.grammar_laws.specs.Laws.{NoneOpens}
 use Rattle.grammar_laws.specs.Check.{all_in, follow}
 use Rattle.grammar_laws.specs.Grammar.{next_in}
 use Rattle.grammar_laws.proofs.Complete.{within_complete}
@@ -382,10 +382,3 @@ module _ {T X : Type 0} {Tree : X → Type 0} (l : Language T X Tree) (ok : (x :
   -- a tree within n levels is what a reader answers
   pub whole_is : (n : ℕ) {A : Type 0} (g : Grammar T X Tree A) → tests l g ≡ true → (y : A) (ts : List T) → Within l.code l.body n g y ts → outcome l n g ts ≡ Got y []
   whole_is n g k y ts d = ap finish (whole l.code l.firsts l.follows l.body decided_of n g (both (decided l.firsts l.follows g) (made l.code l.sample g) k).0 y ts d)
-
-  -- no token of a tree within n levels opens a level more
-  pub tree_too_deep : (n : ℕ) {A : Type 0} (g : Grammar T X Tree A) → tests l g ≡ true → (ts rest : List T) (y : A) → Within l.code l.body n g y ts → IsTooDeep l (suc n) g ts rest → ⊥
-  tree_too_deep n g k ts rest y d late =
-      let b = both (decided l.firsts l.follows g) (made l.code l.sample g) k in
-      none_got n g b.0 ts ts [] y [] (sym (append-nil ts)) (whole l.code l.firsts l.follows l.body decided_of n g b.0 y ts d)
-      late.front late.token late.more (late.parted ∙ ap (λ xs. late.front ++ xs) late.headed) late.opens

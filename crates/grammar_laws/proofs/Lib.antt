@@ -11,4 +11,3 @@ pub mod Earlier
 pub mod Late
 pub mod Knot
 mod Example
-pub mod OneFault
