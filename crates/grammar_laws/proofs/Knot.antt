@@ -382,3 +382,9 @@ module _ {T X : Type 0} {Tree : X → Type 0} (l : Language T X Tree) (ok : (x :
   -- a tree within n levels is what a reader answers
   pub whole_is : (n : ℕ) {A : Type 0} (g : Grammar T X Tree A) → tests l g ≡ true → (y : A) (ts : List T) → Within l.code l.body n g y ts → outcome l n g ts ≡ Got y []
   whole_is n g k y ts d = ap finish (whole l.code l.firsts l.follows l.body decided_of n g (both (decided l.firsts l.follows g) (made l.code l.sample g) k).0 y ts d)
+
+  -- no token of a tree within n levels opens one more
+  pub none_within : (n : ℕ) {A : Type 0} (g : Grammar T X Tree A) → tests l g ≡ true → (y : A) (ts : List T) → Within l.code l.body n g y ts → NoneOpens l (suc n) g ts
+  none_within n g k y ts d =
+      let b = both (decided l.firsts l.follows g) (made l.code l.sample g) k in
+      none_got n g b.0 ts ts [] y [] (sym (append-nil ts)) (whole l.code l.firsts l.follows l.body decided_of n g b.0 y ts d)

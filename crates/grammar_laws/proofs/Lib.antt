@@ -11,3 +11,4 @@ pub mod Earlier
 pub mod Late
 pub mod Knot
 mod Example
+pub mod Faults
