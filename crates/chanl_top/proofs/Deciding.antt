@@ -1,14 +1,14 @@
 -- The cases of the verdict, and what reading says of the bytes that were left.
-use Rattle.std.proofs.Common.{◌≡◌, ℕ, ◌+◌, ◌<◌, ◌≤◌, List, [], ◌++◌, length, codes, map, Option, Some, None, refl, sym, ap, ◌∙◌, subst, arith, inl, inr, ◌⊎◌, append-nil, length-append}
+use Rattle.std.proofs.Common.{◌≡◌, ℕ, ◌+◌, ◌<◌, ◌≤◌, List, ◌++◌, length, codes, Option, Some, None, sym, ap, ◌∙◌, subst, arith, inl, inr, append-nil, length-append}
 use Rattle.std.specs.Io.KnownBytes.{Consumes, IsAtEnd, Appends}
 use Rattle.core_language.specs.Programs.{Program}
 use Rattle.core_language.specs.Rounds.{Run, Entry, run_of}
 use Rattle.core_language.specs.Endings.{Ending, ending_of}
 use Rattle.core_language.specs.Endings as ending
-use Rattle.chan_base.specs.Stream.{Rose, Takes}
+use Rattle.chan_base.specs.Stream.{Takes}
 use Rattle.chan_syntax.specs.declared.surface_tree.Surface.{Surface}
 use Rattle.surface_grammar.specs.Language.{Derives}
-use Rattle.first_grammar.specs.Grammar.{Reads, IsNoProgram}
+use Rattle.first_grammar.specs.Grammar.{Reads}
 use Rattle.first_grammar.specs.Printing.{program_printing}
 use Rattle.text_tokens.specs.Text.{Token, HasTokens}
 use Rattle.chanl_words.specs.declared.Command.{Command}
@@ -16,9 +16,8 @@ use Rattle.chanl_words.specs.declared.Command.TheVariants as command
 use Rattle.chanl_words.specs.Words.{Admits}
 use Rattle.chanl_lines.specs.Lines.{run_text}
 use Rattle.chanl_top.specs.declared.status.Status.{Status}
-use Rattle.chanl_top.specs.declared.status.Status.TheVariants as status
 use Rattle.chanl_top.specs.declared.verdicts.Verdict.{Verdict}
-use Rattle.chanl_top.specs.Verdict.{refusal, longest, default_rounds, ending_status, ran, replayed, IsFmtVerdict, IsReplayVerdict, IsTextVerdict, IsCommandVerdict, IsVerdict}
+use Rattle.chanl_top.specs.Verdict.{refusal, longest, default_rounds, ending_status, replayed, IsReplayVerdict, IsTextVerdict, IsCommandVerdict, IsVerdict}
 use Rattle.chanl_top.specs.Decided.{IsSettled, Decides, Finishes}
 
 -- all was read, so the bytes are those that were left
@@ -49,10 +48,6 @@ settled_ending (ending.Stuck p why) = tt
 settled_ending (ending.Deadlocked ps) = tt
 settled_ending (ending.Leaked cs) = tt
 
-settled_fmt : (text : List ℕ) (v : Verdict) → IsFmtVerdict text v → IsSettled v.status
-settled_fmt text v (inl (tree, reads, is)) = subst (λ (u : Verdict). IsSettled u.status) (sym is) tt
-settled_fmt text v (inr (line, unread, is)) = subst (λ (u : Verdict). IsSettled u.status) (sym is) tt
-
 settled_replay : (text : List ℕ) (v : Verdict) → IsReplayVerdict text v → IsSettled v.status
 settled_replay text v (inl (tokens, has, tree, ns, reads, is)) =
     subst (λ (u : Verdict). IsSettled u.status) (sym is) (settled_ending (ending_of (program_printing ns) (run_of (program_printing ns) default_rounds).config))
@@ -60,7 +55,6 @@ settled_replay text v (inr (inl (tokens, has, tree, none, is))) = subst (λ (u :
 settled_replay text v (inr (inr (line, unread, is))) = subst (λ (u : Verdict). IsSettled u.status) (sym is) tt
 
 settled_text : (command : Command) (text : List ℕ) (v : Verdict) → IsTextVerdict command text v → IsSettled v.status
-settled_text command.Fmt text v is = settled_fmt text v is
 settled_text command.Replay text v is = settled_replay text v is
 
 -- ---- what was decided

@@ -19,6 +19,7 @@ pub enum Reading {
 fn read_tokens(alloc: Global, tokens: Tokens) -> Result<Reading, Memory>
     ensures { IfOk result (IsReadingOf tokens) }
 {
+    let _list = tokens.list();
     match parse(alloc, &tokens) {
         Ok(tree) => Ok(Reading::Tree(tokens, tree)),
         Err(ParseFault::Unexpected(span)) => {
