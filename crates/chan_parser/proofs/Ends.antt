@@ -1,5 +1,5 @@
 -- Items that a semicolon ends.
-use Rattle.std.proofs.Common.{◌≡◌, ℕ, List, [], ◌∷◌, ap, ◌∙◌}
+use Rattle.std.proofs.Common.{◌≡◌, ℕ, List, ap, ◌∙◌}
 use Rattle.text_tokens.specs.Text.{Token}
 use Rattle.grammar_laws.specs.Grammar.{Got, and_then}
 use Rattle.surface_grammar.specs.declared.words.Word.TheVariants as w

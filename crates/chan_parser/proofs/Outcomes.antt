@@ -1,12 +1,12 @@
 -- What `parse` owes, from what reading the program gives.
-use Rattle.std.proofs.Common.{◌≡◌, ◌≢◌, ℕ, zero, suc, ◌+◌, Bool, true, false, List, [], ◌∷◌, ◌++◌, length, refl, sym, ◌∙◌, ap, subst, arith}
+use Rattle.std.proofs.Common.{◌≡◌, ◌≢◌, ℕ, ◌+◌, List, [], ◌∷◌, length, refl, sym, ◌∙◌, ap, subst, arith}
 use Rattle.chan_syntax.specs.declared.identifiers.Span.{Span}
 use Rattle.chan_syntax.specs.declared.surface_tree.Surface.{Surface}
 use Rattle.text_tokens.specs.Text.{Token}
 use Rattle.chan_lexer.specs.declared.token.Token.{Token as Plain}
 use Rattle.chan_lexer.specs.Spelled.{spelled}
 use Rattle.grammar_laws.specs.Grammar.{Outcome, Got, Bad, Deep}
-use Rattle.grammar_laws.specs.Laws.{IsOutcome, finish, outcome}
+use Rattle.grammar_laws.specs.Laws.{IsOutcome, finish}
 use Rattle.grammar_laws.proofs.Knot.{outcome_is, whole_is}
 use Rattle.grammar_laws.proofs.Faults.{one_unexpected, one_too_deep, never_both, tree_not_unexpected, tree_not_too_deep}
 use Rattle.surface_grammar.specs.Declarations.{program}

@@ -6,7 +6,7 @@ use Rattle.grammar_laws.proofs.More.{guarded_same}
 use Rattle.surface_grammar.specs.declared.words.Word.{Word}
 use Rattle.surface_grammar.specs.declared.words.Word.TheVariants as w
 use Rattle.surface_grammar.specs.Words.{code, code_of}
-use Rattle.surface_grammar.specs.Grammar.{G, Rule, AValue, ARes, ABlock}
+use Rattle.surface_grammar.specs.Grammar.{G, AValue, ARes, ABlock}
 use Rattle.surface_grammar.specs.Terms.{res}
 use Rattle.surface_grammar.specs.Operands.{value}
 use Rattle.surface_grammar.specs.Statements.{block}

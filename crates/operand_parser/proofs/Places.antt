@@ -1,5 +1,5 @@
 -- The place of what was read between two cursors.
-use Rattle.std.proofs.Common.{◌≡◌, ℕ, ◌-◌, List, ◌∷◌, take, length, map, refl, ap, sym, ◌∙◌}
+use Rattle.std.proofs.Common.{◌≡◌, ℕ, ◌-◌, List, ◌∷◌, take, length, map, ap, sym, ◌∙◌}
 use Rattle.std.proofs.lemmas.List.{length-map, take-map}
 use Rattle.text_tokens.specs.Text.{Token}
 use Rattle.grammar_laws.specs.Grammar.{has, next_in}

@@ -1,5 +1,5 @@
 -- What a cursor over the tokens answers.
-use Rattle.std.specs.Prelude.{◌≡◌, ℕ, zero, suc, Bool, true, false, if◌then◌else◌, ◌==◌, List, [], ◌∷◌, Option, Some, None, Result, Ok, Err}
+use Rattle.std.specs.Prelude.{◌≡◌, ℕ, zero, suc, Bool, true, if◌then◌else◌, ◌==◌, List, [], ◌∷◌, Option, Some, None, Result, Ok, Err}
 use Rattle.chan_syntax.specs.declared.identifiers.Span.{Span}
 use Rattle.text_tokens.specs.Text.{Token}
 use Rattle.grammar_laws.specs.Grammar.{Outcome, Got, Bad, Deep, and_then, gather, next_in, one_at}
@@ -8,7 +8,7 @@ use Rattle.surface_grammar.specs.declared.parts.Named.{Named}
 use Rattle.surface_grammar.specs.declared.parts.Digits.{Digits}
 use Rattle.surface_grammar.specs.declared.parts.Route.{Route}
 use Rattle.surface_grammar.specs.Words.{code, code_of, name_code, number_code}
-use Rattle.surface_grammar.specs.Grammar.{G, yes, name, number, letters}
+use Rattle.surface_grammar.specs.Grammar.{G, name, number, letters}
 use Rattle.surface_grammar.specs.Language.{At}
 use Rattle.operand_parser.specs.declared.cursor.Stop.{Stop}
 use Rattle.operand_parser.specs.declared.cursor.Stop.TheVariants.{Unexpected, TooDeep, Memory}

@@ -1,4 +1,4 @@
-use Rattle.std.proofs.Common.{ℕ, ◌+◌, ◌*◌}
+use Rattle.std.proofs.Common.{◌+◌, ◌*◌}
 use Rattle.operand_parser.proofs.resources.+res.Given as goal
 
 abbrev pub decreases-two_res : goal.decreases-two_res

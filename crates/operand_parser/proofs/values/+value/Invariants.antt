@@ -1,4 +1,4 @@
-use Rattle.std.proofs.Common.{ℕ, ◌+◌, ◌*◌}
+use Rattle.std.proofs.Common.{◌+◌, ◌*◌}
 use Rattle.operand_parser.proofs.values.+value.Given as goal
 
 abbrev pub decreases-value : goal.decreases-value
