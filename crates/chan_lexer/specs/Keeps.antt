@@ -1,4 +1,5 @@
 -- What a `Tokens` keeps.
+use Rattle.std.specs.Prelude.{◌<◌, length}
 use Rattle.text_tokens.specs.Text.{HasTokens}
 use Rattle.chan_lexer.specs.declared.lexed.Tokens.TheInside.{Inside}
 use Rattle.chan_lexer.specs.Lexed.{Lexed}
@@ -8,6 +9,6 @@ use Rattle.chan_lexer.specs.Spelled.{spelled}
 abbrev pub lexed : Inside → Lexed
 lexed t = record { source = t.source; list = t.list }
 
--- the list is that of the source
+-- the list is that of the source, whose places fit in 32 bits
 abbrev pub IsLexed : Inside → Type 0
-IsLexed t = HasTokens t.source (spelled t.source t.list)
+IsLexed t = HasTokens t.source (spelled t.source t.list) × (length t.source < 4294967295)

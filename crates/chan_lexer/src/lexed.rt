@@ -1,6 +1,6 @@
 //! A text with its tokens.
 
-ghost use Rattle.std.specs.Prelude.{◌≡◌};
+ghost use Rattle.std.specs.Prelude.{◌≡◌, ◌<◌, length};
 ghost use Rattle.text_tokens.specs.Text as spec;
 ghost use Rattle.text_tokens.specs.Text.{HasTokens};
 ghost use Rattle.chan_lexer.specs.Lexed.{tokens_of};
@@ -32,7 +32,8 @@ impl Model for Tokens {
 
 impl Tokens {
     pub fn source(&self) -> &[u8]
-        ensures { result.now ≡ self.now.source }
+        ensures value { result.now ≡ self.now.source }
+        ensures bound { length self.now.source < 4294967295 }
     {
         self.source.as_slice()
     }
@@ -54,7 +55,8 @@ impl Tokens {
 
 /// A source with its tokens, for `tokens` alone.
 pub fn lexed(source: Items<u8>, list: TokenList) -> Tokens
-    requires { HasTokens source (spelled source list) }
+    requires cut { HasTokens source (spelled source list) }
+    requires bound { length source < 4294967295 }
     ensures source { result.source ≡ source }
     ensures list { result.list ≡ list }
 {
