@@ -1,0 +1,52 @@
+-- Words, and the separators that stand between them.
+use Rattle.std.specs.Prelude.{ℕ, codes, List, [], ◌∷◌, ◌++◌}
+use Rattle.std.specs.List.{flat_map, repeat}
+use Rattle.std.specs.Fmt.{decimal}
+use Rattle.text_tokens.specs.declared.TokenKind.TheVariants as kind
+use Rattle.text_tokens.specs.Text.{Piece, separator, token, text_of}
+
+-- ---- words
+
+abbrev pub keyword : List ℕ → Piece
+keyword text = token kind.Keyword text
+
+abbrev pub mark : List ℕ → Piece
+mark text = token kind.Mark text
+
+abbrev pub name : List ℕ → Piece
+name text = token kind.Name text
+
+-- a NUMBER without leading zeros
+abbrev pub number : ℕ → Piece
+number n = token (kind.Number n) (decimal n)
+
+-- ---- separators
+
+abbrev pub space : Piece
+space = separator 32
+
+-- how much deeper the lines of a block stand
+abbrev pub step : ℕ
+step = 4
+
+-- the start of a line at this depth
+unfoldable pub line : ℕ → List Piece
+line depth = separator 10 ∷ repeat depth (space ∷ [])
+
+-- ---- lists
+
+-- each item behind a comma
+unfoldable pub behind_commas : {A : Type 0} → (A → List Piece) → List A → List Piece
+behind_commas item [] = []
+behind_commas item (x ∷ xs) = mark (codes ",") ∷ space ∷ item x ++ behind_commas item xs
+
+-- the items with commas between them
+unfoldable pub listed : {A : Type 0} → (A → List Piece) → List A → List Piece
+listed item [] = []
+listed item (x ∷ xs) = item x ++ behind_commas item xs
+
+-- ---- bytes
+
+-- the bytes of the words and separators
+unfoldable pub bytes : List Piece → List ℕ
+bytes pieces = text_of pieces
