@@ -1,14 +1,15 @@
 //! Values, patterns, paths and proofs.
-#![tactic(auto, using(surface_spelling::proofs::Bytes::byte_rules, surface_spelling::proofs::Spelled::values, std::proofs::lemmas::Grind::common_steps), unfolding(surface_spelling::specs::Operands::values, surface_spelling::specs::Operands::names_behind, surface_spelling::specs::Operands::pat, surface_spelling::specs::Operands::two_pats, surface_spelling::specs::Operands::path, surface_spelling::specs::Operands::mention, surface_spelling::specs::Operands::mentions_behind, surface_spelling::specs::Operands::cert, surface_spelling::specs::Operands::instances, surface_spelling::specs::Operands::certificates, surface_spelling::specs::Operands::proof))]
+#![tactic(auto, using(surface_spelling::proofs::Bytes::byte_rules, std::proofs::lemmas::Grind::common_steps), unfolding(surface_spelling::specs::Operands::values, surface_spelling::specs::Operands::names_behind, surface_spelling::specs::Operands::pat, surface_spelling::specs::Operands::path, surface_spelling::specs::Operands::mention, surface_spelling::specs::Operands::mentions_behind, surface_spelling::specs::Operands::cert, surface_spelling::specs::Operands::instances, surface_spelling::specs::Operands::certificates, surface_spelling::specs::Operands::proof))]
 ghost use Rattle.std.specs.Prelude.{◌≡◌, ◌++◌, map, OnOk};
 ghost use Rattle.surface_spelling.specs.Layout.{bytes};
 ghost use Rattle.surface_spelling.specs.Operands as spec;
 
-use crate::words::{Spell, put, put_listed, put_number};
+use crate::words::{Spell, put, put_in_parens, put_listed, put_number};
 use chan_base::Memory;
 use chan_syntax::{Ident, Letter, Pat, Proof, Supply, Term, WrittenCert, WrittenMention};
 use std::alloc::Global;
 
+#[tactic(auto, using(surface_spelling::proofs::Bytes::byte_rules, surface_spelling::proofs::Spelled::values, std::proofs::lemmas::Grind::common_steps))]
 pub fn put_value(alloc: Global, text: &mut Vec<u8>, value: &Supply) -> Result<(), Memory>
     ensures { OnOk result (text.new.items ≡ text.old.items ++ bytes (spec.value value.now)) }
 {
@@ -47,9 +48,7 @@ impl Spell for Supply {
 pub fn put_values(alloc: Global, text: &mut Vec<u8>, values: &[Supply]) -> Result<(), Memory>
     ensures { OnOk result (text.new.items ≡ text.old.items ++ bytes (spec.values values.now)) }
 {
-    put(text, b"(")?;
-    put_listed(alloc, text, values)?;
-    put(text, b")")
+    put_in_parens(alloc, text, values)
 }
 
 /// Names in brackets, where there are some.
@@ -72,6 +71,7 @@ pub fn put_pat(alloc: Global, text: &mut Vec<u8>, pat: &Pat) -> Result<(), Memor
 }
 
 /// Two patterns in parentheses.
+#[tactic(auto, using(surface_spelling::proofs::Bytes::byte_rules, std::proofs::lemmas::Grind::common_steps), unfolding(surface_spelling::specs::Operands::two_pats))]
 pub fn put_two_pats(
     alloc: Global,
     text: &mut Vec<u8>,

@@ -1,15 +1,16 @@
 //! References, shapes, resources and parameters.
-#![tactic(auto, using(surface_spelling::proofs::Bytes::byte_rules, surface_spelling::proofs::Spelled::shapes, std::proofs::lemmas::Grind::common_steps), unfolding(surface_spelling::specs::Operands::reference, surface_spelling::specs::Operands::res, surface_spelling::specs::Operands::param))]
+#![tactic(auto, using(surface_spelling::proofs::Bytes::byte_rules, std::proofs::lemmas::Grind::common_steps), unfolding(surface_spelling::specs::Operands::res, surface_spelling::specs::Operands::param))]
 ghost use Rattle.std.specs.Prelude.{◌≡◌, ◌++◌, OnOk};
 ghost use Rattle.surface_spelling.specs.Layout.{bytes};
 ghost use Rattle.surface_spelling.specs.Operands as spec;
 
 use crate::terms::put_binds_before;
-use crate::words::{Spell, put, put_listed};
+use crate::words::{Spell, put, put_in_parens};
 use chan_base::Memory;
 use chan_syntax::{Param, Ref, Res, Shape};
 use std::alloc::Global;
 
+#[tactic(auto, using(surface_spelling::proofs::Bytes::byte_rules, std::proofs::lemmas::Grind::common_steps), unfolding(surface_spelling::specs::Operands::reference))]
 pub fn put_reference(alloc: Global, text: &mut Vec<u8>, reference: &Ref) -> Result<(), Memory>
     ensures { OnOk result (text.new.items ≡ text.old.items ++ bytes (spec.reference reference.now)) }
 {
@@ -17,12 +18,11 @@ pub fn put_reference(alloc: Global, text: &mut Vec<u8>, reference: &Ref) -> Resu
         put(text, b"~")?;
     }
     put(text, reference.name.as_slice())?;
-    put(text, b"(")?;
-    put_listed(alloc, text, reference.args.as_slice())?;
-    put(text, b")")
+    put_in_parens(alloc, text, reference.args.as_slice())
 }
 
 #[cycle(shapes)]
+#[tactic(auto, using(surface_spelling::proofs::Bytes::byte_rules, surface_spelling::proofs::Spelled::shapes, std::proofs::lemmas::Grind::common_steps))]
 pub fn put_shape(alloc: Global, text: &mut Vec<u8>, shape: &Shape) -> Result<(), Memory>
     ensures { OnOk result (text.new.items ≡ text.old.items ++ bytes (spec.shape shape.now)) }
 {

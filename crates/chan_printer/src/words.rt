@@ -4,7 +4,7 @@ ghost use Rattle.std.specs.Prelude.{◌≡◌, [], ◌∷◌, ◌++◌, List, On
 ghost use Rattle.std.specs.List.{repeat};
 ghost use Rattle.std.specs.Fmt.{decimal, signed_decimal};
 ghost use Rattle.text_tokens.specs.Text.{Piece};
-ghost use Rattle.surface_spelling.specs.Layout.{bytes, line, listed, behind_commas};
+ghost use Rattle.surface_spelling.specs.Layout.{bytes, line, listed, behind_commas, in_parens};
 ghost use Rattle.surface_spelling.specs.Operands.{a_name};
 
 use chan_base::Memory;
@@ -89,4 +89,13 @@ pub fn put_listed<T: Spell>(alloc: Global, text: &mut Vec<u8>, items: &[T]) -> R
         put_behind_commas(alloc, text, more)?;
     }
     Ok(())
+}
+
+/// Items in parentheses.
+pub fn put_in_parens<T: Spell>(alloc: Global, text: &mut Vec<u8>, items: &[T]) -> Result<(), Memory>
+    ensures { OnOk result (text.new.items ≡ text.old.items ++ bytes (in_parens (listed T.pieces items.now))) }
+{
+    put(text, b"(")?;
+    put_listed(alloc, text, items)?;
+    put(text, b")")
 }

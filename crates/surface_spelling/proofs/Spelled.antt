@@ -19,16 +19,16 @@ use Rattle.chan_syntax.specs.declared.operands.Pat.{Pat}
 use Rattle.chan_syntax.specs.declared.operands.Letter.{Letter}
 use Rattle.chan_syntax.specs.declared.operands.Proof.{Proof}
 use Rattle.text_tokens.specs.Text.{Piece}
-use Rattle.surface_spelling.specs.Layout.{keyword, mark, name, number, space, step, line}
+use Rattle.surface_spelling.specs.Layout.{keyword, space, in_parens, pair}
 use Rattle.surface_spelling.specs.Operands.{term, binds_before, reference, shape, boxed_res, res, value, boxed_value}
 
 -- ---- values
 
-pub value_unit : value v.Unit ≡ mark (codes "(") ∷ mark (codes ")") ∷ []
+pub value_unit : value v.Unit ≡ in_parens []
 unfolding value
 value_unit = refl
 
-pub value_pair : (a b : Supply) → value (v.Pair a b) ≡ mark (codes "(") ∷ value a ++ mark (codes ",") ∷ space ∷ value b ++ mark (codes ")") ∷ []
+pub value_pair : (a b : Supply) → value (v.Pair a b) ≡ pair (value a) (value b)
 unfolding hidden hidden-the_row-Supply-0 value boxed_value
 value_pair a b = refl
 
@@ -52,7 +52,7 @@ pub shape_unit : shape s.Unit ≡ keyword (codes "unit") ∷ []
 unfolding shape
 shape_unit = refl
 
-pub shape_int : (t : Term) → shape (s.Int t) ≡ keyword (codes "int") ∷ mark (codes "(") ∷ term t ++ mark (codes ")") ∷ []
+pub shape_int : (t : Term) → shape (s.Int t) ≡ keyword (codes "int") ∷ in_parens (term t)
 unfolding shape
 shape_int t = refl
 
@@ -60,11 +60,11 @@ pub shape_end : (r : Ref) → shape (s.End r) ≡ keyword (codes "end") ∷ spac
 unfolding shape
 shape_end r = refl
 
-pub shape_pair : (a b : Res) → shape (s.Pair a b) ≡ mark (codes "(") ∷ res a ++ mark (codes ",") ∷ space ∷ res b ++ mark (codes ")") ∷ []
+pub shape_pair : (a b : Res) → shape (s.Pair a b) ≡ pair (res a) (res b)
 unfolding hidden hidden-the_row-Res-0 binds_before shape boxed_res res
 shape_pair a b = refl
 
-pub shape_sum : (a b : Res) → shape (s.Sum a b) ≡ keyword (codes "sum") ∷ mark (codes "(") ∷ res a ++ mark (codes ",") ∷ space ∷ res b ++ mark (codes ")") ∷ []
+pub shape_sum : (a b : Res) → shape (s.Sum a b) ≡ keyword (codes "sum") ∷ pair (res a) (res b)
 unfolding hidden hidden-the_row-Res-0 binds_before shape boxed_res res
 shape_sum a b = refl
 

@@ -21,9 +21,9 @@ use Rattle.chan_syntax.specs.declared.surface_tree.Last.TheVariants as l
 use Rattle.chan_syntax.specs.declared.surface_tree.Last.TheBlock.{hidden-the_row-Stmt-0, hidden-the_row-Last-1, back-the_row-Stmt}
 use Rattle.chan_syntax.specs.declared.surface_tree.Block.{Block}
 use Rattle.text_tokens.specs.Text.{Piece}
-use Rattle.surface_spelling.specs.Layout.{keyword, mark, name, number, space, step, line, behind_commas, listed}
+use Rattle.surface_spelling.specs.Layout.{keyword, mark, name, number, space, step, line, closing, in_braces, pair}
 use Rattle.surface_spelling.specs.Operands.{term, reference, shape, res, binds_behind, param, value, values, names_behind, pat, two_pats, path, proof}
-use Rattle.surface_spelling.specs.Blocks.{let_is, call, access, target, start, task_head, loop_head, in_braces, stmt, last, row_of_stmts, boxed_last, stmts, block}
+use Rattle.surface_spelling.specs.Blocks.{let_is, call, access, target, start, task_head, loop_head, let_fork, sent, condition, match_head, arm_head, branch_head, stmt, last, row_of_stmts, boxed_last, stmts, block}
 
 stmts_row : (d : ℕ) (xs : List Stmt) → row_of_stmts d (back-the_row-Stmt (list_count (this {0}) (map ((this {0}).shape Stmt) xs) 0) (list_put (this {0}) Stmt xs 0 (tt {0}))) ≡ stmts d xs
 unfolding row_of_stmts stmts
@@ -38,15 +38,15 @@ pub stmt_let : (d : ℕ) (n : List ℕ) (at : Span) (t : Term) (bt : Span) → s
 unfolding stmt
 stmt_let d n at t bt = refl
 
-pub stmt_mul : (d : ℕ) (n : List ℕ) (at : Span) (a : Term) (b : Term) (bt : Span) → stmt d (s.Mul n at a b bt) ≡ let_is (name n ∷ []) ++ keyword (codes "mul") ∷ mark (codes "(") ∷ term a ++ mark (codes ",") ∷ space ∷ term b ++ mark (codes ")") ∷ []
+pub stmt_mul : (d : ℕ) (n : List ℕ) (at : Span) (a : Term) (b : Term) (bt : Span) → stmt d (s.Mul n at a b bt) ≡ let_is (name n ∷ []) ++ keyword (codes "mul") ∷ pair (term a) (term b)
 unfolding stmt
 stmt_mul d n at a b bt = refl
 
-pub stmt_div : (d : ℕ) (n : List ℕ) (at : Span) (t : Term) (k : ℕ) (bt : Span) (ct : Span) → stmt d (s.Div n at t k bt ct) ≡ let_is (name n ∷ []) ++ keyword (codes "div") ∷ mark (codes "(") ∷ term t ++ mark (codes ",") ∷ space ∷ number k ∷ mark (codes ")") ∷ []
+pub stmt_div : (d : ℕ) (n : List ℕ) (at : Span) (t : Term) (k : ℕ) (bt : Span) (ct : Span) → stmt d (s.Div n at t k bt ct) ≡ let_is (name n ∷ []) ++ keyword (codes "div") ∷ pair (term t) (number k ∷ [])
 unfolding stmt
 stmt_div d n at t k bt ct = refl
 
-pub stmt_rem : (d : ℕ) (n : List ℕ) (at : Span) (t : Term) (k : ℕ) (bt : Span) (ct : Span) → stmt d (s.Rem n at t k bt ct) ≡ let_is (name n ∷ []) ++ keyword (codes "rem") ∷ mark (codes "(") ∷ term t ++ mark (codes ",") ∷ space ∷ number k ∷ mark (codes ")") ∷ []
+pub stmt_rem : (d : ℕ) (n : List ℕ) (at : Span) (t : Term) (k : ℕ) (bt : Span) (ct : Span) → stmt d (s.Rem n at t k bt ct) ≡ let_is (name n ∷ []) ++ keyword (codes "rem") ∷ pair (term t) (number k ∷ [])
 unfolding stmt
 stmt_rem d n at t k bt ct = refl
 
@@ -54,15 +54,15 @@ pub stmt_call : (d : ℕ) (p : Pat) (f : List ℕ) (at : Span) (vs : List Supply
 unfolding stmt
 stmt_call d p f at vs q bt = refl
 
-pub stmt_fork : (d : ℕ) (n : List ℕ) (at : Span) (r : Ref) (f : List ℕ) (bt : Span) (vs : List Supply) (q : Proof) (ct : Span) → stmt d (s.Fork n at r f bt vs q ct) ≡ let_is (name n ∷ []) ++ keyword (codes "fork") ∷ space ∷ reference r ++ space ∷ call f vs q
+pub stmt_fork : (d : ℕ) (n : List ℕ) (at : Span) (r : Ref) (f : List ℕ) (bt : Span) (vs : List Supply) (q : Proof) (ct : Span) → stmt d (s.Fork n at r f bt vs q ct) ≡ let_fork n r ++ call f vs q
 unfolding stmt
 stmt_fork d n at r f bt vs q ct = refl
 
-pub stmt_forkdo : (d : ℕ) (n : List ℕ) (at : Span) (r : Ref) (f : List ℕ) (bt : Span) (b : Bound) (x : Param) (xs : List Start) (q : Proof) (then_block : Block) (ct : Span) → stmt d (s.ForkDo n at r f bt b x xs q then_block ct) ≡ let_is (name n ∷ []) ++ keyword (codes "fork") ∷ space ∷ reference r ++ space ∷ keyword (codes "do") ∷ space ∷ task_head f b x xs q ++ block d then_block
+pub stmt_forkdo : (d : ℕ) (n : List ℕ) (at : Span) (r : Ref) (f : List ℕ) (bt : Span) (b : Bound) (x : Param) (xs : List Start) (q : Proof) (then_block : Block) (ct : Span) → stmt d (s.ForkDo n at r f bt b x xs q then_block ct) ≡ let_fork n r ++ keyword (codes "do") ∷ space ∷ task_head f b x xs q ++ block d then_block
 unfolding hidden hidden-the_row-Stmt-0 hidden-the_row-Last-1 stmt last row_of_stmts boxed_last block
 stmt_forkdo d n at r f bt b x xs q then_block ct = rw (stmts_row (d + step) then_block.stmts) refl
 
-pub stmt_send1 : (d : ℕ) (c : List ℕ) (at : Span) (p : List Letter) (bt : Option Span) (v : Supply) (q : Proof) (ct : Span) → stmt d (s.Send1 c at p bt v q ct) ≡ keyword (codes "send1") ∷ space ∷ name c ∷ path p ++ space ∷ value v ++ proof q
+pub stmt_send1 : (d : ℕ) (c : List ℕ) (at : Span) (p : List Letter) (bt : Option Span) (v : Supply) (q : Proof) (ct : Span) → stmt d (s.Send1 c at p bt v q ct) ≡ keyword (codes "send1") ∷ space ∷ name c ∷ path p ++ sent v q
 unfolding stmt
 stmt_send1 d c at p bt v q ct = refl
 
@@ -70,7 +70,7 @@ pub stmt_recv1 : (d : ℕ) (x : Pat) (c : List ℕ) (at : Span) (p : List Letter
 unfolding stmt
 stmt_recv1 d x c at p bt q ct = refl
 
-pub stmt_send : (d : ℕ) (n : List ℕ) (at : Span) (c : List ℕ) (bt : Span) (r : Ref) (p : List Letter) (ct : Option Span) (v : Supply) (q : Proof) (dt : Span) → stmt d (s.Send n at c bt r p ct v q dt) ≡ let_is (name n ∷ []) ++ keyword (codes "send") ∷ space ∷ target c r p ++ space ∷ value v ++ proof q
+pub stmt_send : (d : ℕ) (n : List ℕ) (at : Span) (c : List ℕ) (bt : Span) (r : Ref) (p : List Letter) (ct : Option Span) (v : Supply) (q : Proof) (dt : Span) → stmt d (s.Send n at c bt r p ct v q dt) ≡ let_is (name n ∷ []) ++ keyword (codes "send") ∷ space ∷ target c r p ++ sent v q
 unfolding stmt
 stmt_send d n at c bt r p ct v q dt = refl
 
@@ -98,7 +98,7 @@ pub stmt_print : (d : ℕ) (t : Term) (at : Span) → stmt d (s.Print t at) ≡ 
 unfolding stmt
 stmt_print d t at = refl
 
-pub last_ret : (d : ℕ) (v : Supply) (q : Proof) (at : Span) → last d (l.Ret v q at) ≡ keyword (codes "ret") ∷ space ∷ value v ++ proof q
+pub last_ret : (d : ℕ) (v : Supply) (q : Proof) (at : Span) → last d (l.Ret v q at) ≡ keyword (codes "ret") ∷ sent v q
 unfolding last
 last_ret d v q at = refl
 
@@ -106,15 +106,15 @@ pub last_tail : (d : ℕ) (f : List ℕ) (at : Span) (vs : List Supply) (q : Pro
 unfolding last
 last_tail d f at vs q bt = refl
 
-pub last_if : (d : ℕ) (a : Term) (b : Term) (then_block : Block) (else_block : Block) (at : Span) → last d (l.If a b then_block else_block at) ≡ keyword (codes "if") ∷ space ∷ term a ++ space ∷ mark (codes "<=") ∷ space ∷ term b ++ space ∷ block d then_block ++ space ∷ keyword (codes "else") ∷ space ∷ block d else_block
+pub last_if : (d : ℕ) (a : Term) (b : Term) (then_block : Block) (else_block : Block) (at : Span) → last d (l.If a b then_block else_block at) ≡ condition a b ++ block d then_block ++ space ∷ keyword (codes "else") ∷ space ∷ block d else_block
 unfolding hidden hidden-the_row-Stmt-0 hidden-the_row-Last-1 stmt last row_of_stmts boxed_last block
 last_if d a b then_block else_block at = rw (stmts_row (d + step) then_block.stmts, stmts_row (d + step) else_block.stmts) refl
 
-pub last_match : (d : ℕ) (n : List ℕ) (at : Span) (p : Pat) (then_block : Block) (q : Pat) (else_block : Block) (bt : Span) → last d (l.Match n at p then_block q else_block bt) ≡ keyword (codes "match") ∷ space ∷ name n ∷ space ∷ mark (codes "{") ∷ line (d + step) ++ keyword (codes "inl") ∷ space ∷ pat p ++ space ∷ block (d + step) then_block ++ line (d + step) ++ keyword (codes "inr") ∷ space ∷ pat q ++ space ∷ block (d + step) else_block ++ line d ++ mark (codes "}") ∷ []
+pub last_match : (d : ℕ) (n : List ℕ) (at : Span) (p : Pat) (then_block : Block) (q : Pat) (else_block : Block) (bt : Span) → last d (l.Match n at p then_block q else_block bt) ≡ match_head n ++ arm_head (d + step) (codes "inl") p ++ block (d + step) then_block ++ arm_head (d + step) (codes "inr") q ++ block (d + step) else_block ++ closing d
 unfolding hidden hidden-the_row-Stmt-0 hidden-the_row-Last-1 stmt last row_of_stmts boxed_last block
 last_match d n at p then_block q else_block bt = rw (stmts_row (d + step + step) then_block.stmts, stmts_row (d + step + step) else_block.stmts) refl
 
-pub last_branch : (d : ℕ) (c : List ℕ) (at : Span) (p : List Letter) (bt : Option Span) (q : Proof) (b : List ℕ) (ct : Span) (z : List ℕ) (dt : Span) (then_block : Block) (else_block : Block) (et : Span) → last d (l.Branch c at p bt q b ct z dt then_block else_block et) ≡ keyword (codes "branch") ∷ space ∷ access c p q ++ space ∷ keyword (codes "as") ∷ space ∷ name b ∷ mark (codes ",") ∷ space ∷ name z ∷ space ∷ block d then_block ++ space ∷ keyword (codes "else") ∷ space ∷ block d else_block
+pub last_branch : (d : ℕ) (c : List ℕ) (at : Span) (p : List Letter) (bt : Option Span) (q : Proof) (b : List ℕ) (ct : Span) (z : List ℕ) (dt : Span) (then_block : Block) (else_block : Block) (et : Span) → last d (l.Branch c at p bt q b ct z dt then_block else_block et) ≡ branch_head c p q b z ++ block d then_block ++ space ∷ keyword (codes "else") ∷ space ∷ block d else_block
 unfolding hidden hidden-the_row-Stmt-0 hidden-the_row-Last-1 stmt last row_of_stmts boxed_last block
 last_branch d c at p bt q b ct z dt then_block else_block et = rw (stmts_row (d + step) then_block.stmts, stmts_row (d + step) else_block.stmts) refl
 

@@ -45,6 +45,28 @@ unfoldable pub listed : {A : Type 0} → (A → List Piece) → List A → List 
 listed item [] = []
 listed item (x ∷ xs) = item x ++ behind_commas item xs
 
+-- ---- brackets
+
+-- between parentheses
+unfoldable pub in_parens : List Piece → List Piece
+in_parens inner = mark (codes "(") ∷ inner ++ mark (codes ")") ∷ []
+
+-- between brackets
+unfoldable pub in_brackets : List Piece → List Piece
+in_brackets inner = mark (codes "[") ∷ inner ++ mark (codes "]") ∷ []
+
+-- two with a comma between them, in parentheses
+unfoldable pub pair : List Piece → List Piece → List Piece
+pair a b = in_parens (a ++ mark (codes ",") ∷ space ∷ b)
+
+-- the brace that closes what was opened on a line at this depth
+unfoldable pub closing : ℕ → List Piece
+closing depth = line depth ++ mark (codes "}") ∷ []
+
+-- a block with these lines, opened on a line at this depth
+unfoldable pub in_braces : ℕ → List Piece → List Piece
+in_braces depth lines = mark (codes "{") ∷ lines ++ closing depth
+
 -- ---- bytes
 
 -- the bytes of the words and separators

@@ -19,7 +19,7 @@ use Rattle.chan_syntax.specs.declared.operands.WrittenMention.{WrittenMention}
 use Rattle.chan_syntax.specs.declared.operands.WrittenCert.{WrittenCert}
 use Rattle.chan_syntax.specs.declared.operands.Proof.{Proof}
 use Rattle.text_tokens.specs.Text.{Piece}
-use Rattle.surface_spelling.specs.Layout.{keyword, mark, name, number, space, listed}
+use Rattle.surface_spelling.specs.Layout.{keyword, mark, name, number, space, listed, in_parens, in_brackets, pair}
 
 -- a name alone
 abbrev pub a_name : List ℕ → List Piece
@@ -77,7 +77,7 @@ limits (l ∷ ls) = mark (codes ":") ∷ space ∷ listed limit (l ∷ ls)
 
 -- binds
 unfoldable pub binds : List (List ℕ) → List Limit → List Piece
-binds names ls = mark (codes "[") ∷ listed a_name names ++ limits ls ++ mark (codes "]") ∷ []
+binds names ls = in_brackets (listed a_name names ++ limits ls)
 
 -- [ binds ] of a resource, with the space behind it
 unfoldable pub binds_before : List (List ℕ) → List Limit → List Piece
@@ -92,7 +92,7 @@ binds_behind (n ∷ ns) ls = space ∷ binds (n ∷ ns) ls
 -- ---- ref = ["~"] NAME "(" [terms] ")"
 
 unfoldable pub reference : Ref → List Piece
-reference r = (if r.dual then mark (codes "~") ∷ [] else []) ++ name r.name ∷ mark (codes "(") ∷ listed term r.args ++ mark (codes ")") ∷ []
+reference r = (if r.dual then mark (codes "~") ∷ [] else []) ++ name r.name ∷ in_parens (listed term r.args)
 
 -- ---- shape = "unit" | "int" "(" term ")" | "end" ref | "(" res "," res ")" | "sum" "(" res "," res ")"
 -- ---- res = [binds] shape
@@ -100,10 +100,10 @@ reference r = (if r.dual then mark (codes "~") ∷ [] else []) ++ name r.name �
 unfoldable mutual
   pub shape : Shape → List Piece
   shape Unit = keyword (codes "unit") ∷ []
-  shape (Int t) = keyword (codes "int") ∷ mark (codes "(") ∷ term t ++ mark (codes ")") ∷ []
+  shape (Int t) = keyword (codes "int") ∷ in_parens (term t)
   shape (End r) = keyword (codes "end") ∷ space ∷ reference r
-  shape (Pair' _ a _ b) = mark (codes "(") ∷ boxed_res a ++ mark (codes ",") ∷ space ∷ boxed_res b ++ mark (codes ")") ∷ []
-  shape (Sum' _ a _ b) = keyword (codes "sum") ∷ mark (codes "(") ∷ boxed_res a ++ mark (codes ",") ∷ space ∷ boxed_res b ++ mark (codes ")") ∷ []
+  shape (Pair' _ a _ b) = pair (boxed_res a) (boxed_res b)
+  shape (Sum' _ a _ b) = keyword (codes "sum") ∷ pair (boxed_res a) (boxed_res b)
 
   -- the resource that a box holds
   pub boxed_res : {m : _} → Row_of-Res m → List Piece
@@ -121,8 +121,8 @@ param p = name p.name ∷ mark (codes ":") ∷ space ∷ shape p.shape
 
 unfoldable mutual
   pub value : Supply → List Piece
-  value SupplyUnit = mark (codes "(") ∷ mark (codes ")") ∷ []
-  value (SupplyPair' _ a _ b) = mark (codes "(") ∷ boxed_value a ++ mark (codes ",") ∷ space ∷ boxed_value b ++ mark (codes ")") ∷ []
+  value SupplyUnit = in_parens []
+  value (SupplyPair' _ a _ b) = pair (boxed_value a) (boxed_value b)
   value (Left' _ a) = keyword (codes "inl") ∷ space ∷ boxed_value a
   value (Right' _ a) = keyword (codes "inr") ∷ space ∷ boxed_value a
   value (SupplySum t) = term t
@@ -134,21 +134,21 @@ unfoldable mutual
 
 -- "(" [values] ")"
 unfoldable pub values : List Supply → List Piece
-values vs = mark (codes "(") ∷ listed value vs ++ mark (codes ")") ∷ []
+values vs = in_parens (listed value vs)
 
 -- ---- pat = NAME [ "[" names "]" ]
 
 -- [ "[" names "]" ], with the space before it
 unfoldable pub names_behind : List (List ℕ) → List Piece
 names_behind [] = []
-names_behind (n ∷ ns) = space ∷ mark (codes "[") ∷ listed a_name (n ∷ ns) ++ mark (codes "]") ∷ []
+names_behind (n ∷ ns) = space ∷ in_brackets (listed a_name (n ∷ ns))
 
 unfoldable pub pat : Pat → List Piece
 pat p = name p.name ∷ names_behind p.names
 
 -- "(" pat "," pat ")"
 unfoldable pub two_pats : Pat → Pat → List Piece
-two_pats p q = mark (codes "(") ∷ pat p ++ mark (codes ",") ∷ space ∷ pat q ++ mark (codes ")") ∷ []
+two_pats p q = pair (pat p) (pat q)
 
 -- ---- path = "via" NAME
 
@@ -183,11 +183,11 @@ cert c =
 
 unfoldable pub instances : List Term → List Piece
 instances [] = []
-instances (t ∷ ts) = space ∷ keyword (codes "with") ∷ space ∷ mark (codes "[") ∷ listed term (t ∷ ts) ++ mark (codes "]") ∷ []
+instances (t ∷ ts) = space ∷ keyword (codes "with") ∷ space ∷ in_brackets (listed term (t ∷ ts))
 
 unfoldable pub certificates : List WrittenCert → List Piece
 certificates [] = []
-certificates (c ∷ cs) = space ∷ keyword (codes "by") ∷ space ∷ mark (codes "[") ∷ listed cert (c ∷ cs) ++ mark (codes "]") ∷ []
+certificates (c ∷ cs) = space ∷ keyword (codes "by") ∷ space ∷ in_brackets (listed cert (c ∷ cs))
 
 -- with the space before it
 unfoldable pub proof : Proof → List Piece
