@@ -1,0 +1,4 @@
+pub mod Layout
+pub mod Operands
+pub mod Blocks
+pub mod Spelling
