@@ -17,7 +17,7 @@ use Rattle.chanl_words.specs.Words.{Admits}
 use Rattle.chanl_lines.specs.Lines.{run_text}
 use Rattle.chanl_top.specs.declared.status.Status.{Status}
 use Rattle.chanl_top.specs.declared.verdicts.Verdict.{Verdict}
-use Rattle.chanl_top.specs.Verdict.{refusal, longest, default_rounds, ending_status, replayed, IsReplayVerdict, IsTextVerdict, IsCommandVerdict, IsVerdict}
+use Rattle.chanl_top.specs.Verdict.{refusal, longest, default_rounds, ending_status, replayed, IsFmtVerdict, IsReplayVerdict, IsTextVerdict, IsCommandVerdict, IsVerdict}
 use Rattle.chanl_top.specs.Decided.{IsSettled, Decides, Finishes}
 
 -- all was read, so the bytes are those that were left
@@ -48,6 +48,10 @@ settled_ending (ending.Stuck p why) = tt
 settled_ending (ending.Deadlocked ps) = tt
 settled_ending (ending.Leaked cs) = tt
 
+settled_fmt : (text : List ℕ) (v : Verdict) → IsFmtVerdict text v → IsSettled v.status
+settled_fmt text v (inl (tree, reads, is)) = subst (λ (u : Verdict). IsSettled u.status) (sym is) tt
+settled_fmt text v (inr (line, unread, is)) = subst (λ (u : Verdict). IsSettled u.status) (sym is) tt
+
 settled_replay : (text : List ℕ) (v : Verdict) → IsReplayVerdict text v → IsSettled v.status
 settled_replay text v (inl (tokens, has, tree, ns, reads, is)) =
     subst (λ (u : Verdict). IsSettled u.status) (sym is) (settled_ending (ending_of (program_printing ns) (run_of (program_printing ns) default_rounds).config))
@@ -55,6 +59,7 @@ settled_replay text v (inr (inl (tokens, has, tree, none, is))) = subst (λ (u :
 settled_replay text v (inr (inr (line, unread, is))) = subst (λ (u : Verdict). IsSettled u.status) (sym is) tt
 
 settled_text : (command : Command) (text : List ℕ) (v : Verdict) → IsTextVerdict command text v → IsSettled v.status
+settled_text command.Fmt text v is = settled_fmt text v is
 settled_text command.Replay text v is = settled_replay text v is
 
 -- ---- what was decided

@@ -9,6 +9,10 @@ use Rattle.surface_grammar.specs.Declarations.{program}
 use Rattle.surface_grammar.specs.Language.{surface, max_levels, Derives}
 use Rattle.chan_parser.specs.Parse as parse
 use Rattle.chan_parser.proofs.Outcomes.{no_fault}
+use Rattle.grammar_laws.proofs.Knot.{one_tree}
+use Rattle.surface_grammar.proofs.Tests.{names_pass, program_passes, samples}
+use Rattle.surface_spelling.specs.Spelling.{spelling}
+use Rattle.chanl_top.specs.declared.status.Status.TheVariants as status
 use Rattle.chanl_words.specs.declared.Command.{Command}
 use Rattle.chanl_words.specs.declared.Command.TheVariants as command
 use Rattle.chanl_words.specs.Words.{name_of}
@@ -16,7 +20,7 @@ use Rattle.first_grammar.specs.Grammar.{Reads}
 use Rattle.first_grammar.specs.Printing.{program_printing}
 use Rattle.first_grammar.proofs.Readings.{one_reading}
 use Rattle.chanl_top.specs.declared.verdicts.Verdict.{Verdict}
-use Rattle.chanl_top.specs.Verdict.{default_rounds, replayed, lexing_line, grammar_line, line_refusal, ReadsAs, IsUnread, IsReplayVerdict, IsTextVerdict, IsCommandVerdict, IsVerdict}
+use Rattle.chanl_top.specs.Verdict.{default_rounds, replayed, lexing_line, grammar_line, line_refusal, ReadsAs, IsUnread, IsFmtVerdict, IsReplayVerdict, IsTextVerdict, IsCommandVerdict, IsVerdict}
 
 -- ---- a text is read as one tree, or refused by one line
 
@@ -43,7 +47,18 @@ read_or_refused text line tree (ts, has, derives) (inl (f, first, is)) = never_b
 read_or_refused text line tree (ts, has, derives) (inr (us, has_too, e, first, is)) =
     no_fault text us tree (subst (λ xs. Derives tree xs) (one_list text ts us has has_too) derives) e first
 
+one_surface : (text : List ℕ) (s t : Surface) → ReadsAs text s → ReadsAs text t → s ≡ t
+one_surface text s t (ts, has, derives) (us, has_too, derives_too) =
+    one_tree surface names_pass samples program program_passes s t us (max_levels, subst (λ xs. Derives s xs) (one_list text ts us has has_too) derives) (max_levels, derives_too)
+
 -- ---- one verdict
+
+one_fmt : (text : List ℕ) (v u : Verdict) → IsFmtVerdict text v → IsFmtVerdict text u → v ≡ u
+one_fmt text v u (inl (s, reads, is)) (inl (t, reads_too, is_too)) =
+    is ∙ ap (λ tree. record { status = status.Done; output = spelling tree }) (one_surface text s t reads reads_too) ∙ sym is_too
+one_fmt text v u (inl (s, reads, is)) (inr (line, unread, is_too)) = absurd (read_or_refused text line s reads unread)
+one_fmt text v u (inr (line, unread, is)) (inl (t, reads, is_too)) = absurd (read_or_refused text line t reads unread)
+one_fmt text v u (inr (line, unread, is)) (inr (other, unread_too, is_too)) = is ∙ ap line_refusal (one_line text line other unread unread_too) ∙ sym is_too
 
 one_replay : (text : List ℕ) (v u : Verdict) → IsReplayVerdict text v → IsReplayVerdict text u → v ≡ u
 one_replay text v u (inl (ts, has, tree, ns, reads, is)) (inl (us, has_too, tree_too, ms, reads_too, is_too)) =
@@ -60,6 +75,7 @@ one_replay text v u (inr (inr (line, unread, is))) (inr (inl (us, has, (tree, de
 one_replay text v u (inr (inr (line, unread, is))) (inr (inr (other, unread_too, is_too))) = is ∙ ap line_refusal (one_line text line other unread unread_too) ∙ sym is_too
 
 one_of_text : (c : Command) (text : List ℕ) (v u : Verdict) → IsTextVerdict c text v → IsTextVerdict c text u → v ≡ u
+one_of_text command.Fmt text v u is is_too = one_fmt text v u is is_too
 one_of_text command.Replay text v u is is_too = one_replay text v u is is_too
 
 one_of_command : (c : Command) (text : List ℕ) (v u : Verdict) → IsCommandVerdict c text v → IsCommandVerdict c text u → v ≡ u
@@ -69,7 +85,10 @@ one_of_command c text v u (inr (many, is)) (inl (few, is_too)) = absurd (omega (
 one_of_command c text v u (inr (many, is)) (inr (many_too, is_too)) = is ∙ sym is_too
 
 same_command : (c d : Command) → name_of c ∷ [] ≡ name_of d ∷ [] → c ≡ d
+same_command command.Fmt command.Fmt e = refl
 same_command command.Replay command.Replay e = refl
+same_command command.Fmt command.Replay e = cc
+same_command command.Replay command.Fmt e = cc
 
 pub one_verdict : (words : List (List ℕ)) (bytes : List ℕ) (v u : Verdict) → IsVerdict words bytes v → IsVerdict words bytes u → v ≡ u
 one_verdict words bytes v u (inl (c, admitted, is)) (inl (d, admitted_too, is_too)) =

@@ -13,6 +13,7 @@ use Rattle.chanl_lines.specs.Lines.{usage, refused, refused_at, run_text}
 use Rattle.chan_syntax.specs.declared.surface_tree.Surface.{Surface}
 use Rattle.text_tokens.specs.Text.{Token, HasTokens, Fault, bad_byte, bad_token, number_too_large, IsFirstFault}
 use Rattle.surface_grammar.specs.Language.{Derives}
+use Rattle.surface_spelling.specs.Spelling.{spelling}
 use Rattle.chan_parser.specs.Parse as parse
 use Rattle.chanl_top.specs.declared.status.Status.{Status}
 use Rattle.chanl_top.specs.declared.status.Status.TheVariants as status
@@ -89,6 +90,12 @@ line_refusal line = record { status = status.TextRefused; output = line }
 
 -- ---- commands on a text of at most the greatest length
 
+-- the canonical spelling of the tree
+abbrev pub IsFmtVerdict : List ℕ → Verdict → Type 0
+IsFmtVerdict text verdict =
+    ((tree : Surface) × ReadsAs text tree × (verdict ≡ record { status = status.Done; output = spelling tree }))
+    ⊎ ((line : List ℕ) × IsUnread text line × (verdict ≡ line_refusal line))
+
 -- the run of a program that prints numbers; other texts of the grammar can't be run yet
 abbrev pub IsReplayVerdict : List ℕ → Verdict → Type 0
 IsReplayVerdict text verdict =
@@ -98,6 +105,7 @@ IsReplayVerdict text verdict =
     ⊎ ((line : List ℕ) × IsUnread text line × (verdict ≡ line_refusal line)))
 
 abbrev pub IsTextVerdict : Command → List ℕ → Verdict → Type 0
+IsTextVerdict command.Fmt text verdict = IsFmtVerdict text verdict
 IsTextVerdict command.Replay text verdict = IsReplayVerdict text verdict
 
 -- a text that is too long is refused for that alone

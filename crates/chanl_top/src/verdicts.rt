@@ -1,12 +1,13 @@
 //! What the program answers to a text.
 ghost use Rattle.std.specs.Prelude.{◌≡◌, ◌≤◌, length, IfOk};
 ghost use Rattle.chan_machine.specs.Reading.{ending_as};
-ghost use Rattle.chanl_top.specs.Verdict.{IsReplayVerdict, IsTextVerdict, ending_status};
+ghost use Rattle.chanl_top.specs.Verdict.{IsFmtVerdict, IsReplayVerdict, IsTextVerdict, ending_status};
 
 use crate::readings::{Reading, read};
 use crate::status::Status;
 use chan_base::{Bytes, Memory};
 use chan_machine::{Ending, replay};
+use chan_printer::print;
 use chanl_lines::run_text;
 use chanl_words::Command;
 use first_grammar::program;
@@ -29,6 +30,26 @@ fn status_of(ending: &Ending) -> Status
         Ending::Finished => Status::Done,
         Ending::Rounds | Ending::Range(_) | Ending::Depth(_) => Status::Stopped,
         Ending::Stuck(..) | Ending::Deadlocked(_) | Ending::Leaked(_) => Status::BadEnding,
+    }
+}
+
+/// The canonical spelling of a text.
+fn formatted(alloc: Global, text: &[u8]) -> Result<Verdict, Memory>
+    requires { length text.now ≤ 1048576 }
+    ensures { IfOk result (IsFmtVerdict text.now) }
+{
+    match read(alloc, text)? {
+        Reading::Tree(_, tree) => {
+            let output = print(alloc, &tree)?;
+            Ok(Verdict {
+                status: Status::Done,
+                output,
+            })
+        }
+        Reading::Refused(output) => Ok(Verdict {
+            status: Status::TextRefused,
+            output,
+        }),
     }
 }
 
@@ -67,6 +88,7 @@ pub(crate) fn answer_to(alloc: Global, command: Command, text: &[u8]) -> Result<
     ensures { IfOk result (IsTextVerdict command text.now) }
 {
     match command {
+        Command::Fmt => formatted(alloc, text),
         Command::Replay => replayed(alloc, text),
     }
 }

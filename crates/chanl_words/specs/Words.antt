@@ -4,6 +4,7 @@ use Rattle.chanl_words.specs.declared.Command.{Command}
 use Rattle.chanl_words.specs.declared.Command.TheVariants as command
 
 abbrev pub name_of : Command → List ℕ
+name_of command.Fmt = codes "fmt"
 name_of command.Replay = codes "replay"
 
 -- the name of the command and nothing else

@@ -7,6 +7,7 @@ ghost use Rattle.chanl_words.specs.Words.{name_of, Admits, IsUsage};
 /// What the program is asked to do.
 #[derive(Clone, Copy, Debug, PartialEq, Eq)]
 pub enum Command {
+    Fmt,
     Replay,
 }
 
@@ -26,7 +27,9 @@ impl Command {
         ensures some { IfSome result (λ command. name.now ≡ name_of command) }
         ensures none { IfNone result ((command : Command) → ¬ (name.now ≡ name_of command)) }
     {
-        if name == "replay" {
+        if name == "fmt" {
+            Some(Command::Fmt)
+        } else if name == "replay" {
             Some(Command::Replay)
         } else {
             None
