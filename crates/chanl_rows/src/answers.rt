@@ -12,11 +12,7 @@ fn one_call(alloc: Global, number: u64) -> Result<Calls, Memory> {
 }
 
 /// The status and the output.
-pub(crate) fn answer(
-    alloc: Global,
-    words: &[&str],
-    text: &[u8],
-) -> Result<(u8, Vec<u8>), Memory> {
+pub(crate) fn answer(alloc: Global, words: &[&str], text: &[u8]) -> Result<(u8, Vec<u8>), Memory> {
     answer_with_faults(alloc, words, text, NEVER, NEVER)
 }
 

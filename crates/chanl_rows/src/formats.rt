@@ -7,8 +7,16 @@ const HEAD: &[u8] = b"fn main() -> unit { ret ";
 #[test]
 fn texts_are_spelled_canonically(rt: HostRuntime) -> Result<(), Fail> {
     let rows: [(&[u8], u8, &[u8]); 5] = [
-        (b"fn main()->unit{print 007;ret()}", 0, b"fn main() -> unit {\n    print 7;\n    ret ()\n}\n"),
-        (b"fn main() -> unit { ret ()", 1, b"refused 1:27 unexpected\n"),
+        (
+            b"fn main()->unit{print 007;ret()}",
+            0,
+            b"fn main() -> unit {\n    print 7;\n    ret ()\n}\n",
+        ),
+        (
+            b"fn main() -> unit { ret ()",
+            1,
+            b"refused 1:27 unexpected\n",
+        ),
         (b"@", 1, b"refused 1:1 bad token\n"),
         (b"\xc3", 1, b"refused 1:1 bad byte\n"),
         (b"// nothing\n", 0, b""),

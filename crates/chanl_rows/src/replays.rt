@@ -3,7 +3,9 @@ use crate::answers::{answer, answer_with_faults};
 use std::test::Fail;
 
 const SEVEN: &[u8] = b"fn main() -> unit { print 7; ret () }\n";
+
 const NOT_YET: &[u8] = b"refused not yet\n";
+
 const NEVER: u64 = 1000000;
 
 #[test]
@@ -56,12 +58,27 @@ fn texts_that_cannot_run_yet_are_refused(rt: HostRuntime) -> Result<(), Fail> {
 #[test]
 fn faults_of_a_text_have_their_lines(rt: HostRuntime) -> Result<(), Fail> {
     let rows: [(&[u8], &[u8]); 6] = [
-        (b"fn main() -> unit { print 9223372036854775808; ret () }", b"refused 1:27 number too large\n"),
-        (b"fn main() -> unit {\n    print 7 ret () }", b"refused 2:13 unexpected\n"),
-        (b"fn main() -> unit { ret () } \xc3", b"refused 1:30 bad byte\n"),
-        (b"fn main() -> unit { ret () } // \xc3\n\t@", b"refused 2:2 bad token\n"),
+        (
+            b"fn main() -> unit { print 9223372036854775808; ret () }",
+            b"refused 1:27 number too large\n",
+        ),
+        (
+            b"fn main() -> unit {\n    print 7 ret () }",
+            b"refused 2:13 unexpected\n",
+        ),
+        (
+            b"fn main() -> unit { ret () } \xc3",
+            b"refused 1:30 bad byte\n",
+        ),
+        (
+            b"fn main() -> unit { ret () } // \xc3\n\t@",
+            b"refused 2:2 bad token\n",
+        ),
         (b"fn main() -> unit { ret ()\n", b"refused 2:1 unexpected\n"),
-        (b"fn main() -> unit { ret () } fn", b"refused 1:32 unexpected\n"),
+        (
+            b"fn main() -> unit { ret () } fn",
+            b"refused 1:32 unexpected\n",
+        ),
     ];
     for (text, line) in rows {
         let (status, written) = answer(rt.alloc(), &["replay"], text)?;

@@ -82,8 +82,8 @@ decides_text command left new before now v text bytes same is took over few =
     inr (
       settled_text command text v is,
       λ all told.
-        let whole : bytes ≡ all = all_read left new bytes all took over told in
-        inl (subst (λ (xs : List ℕ). length xs ≤ longest) whole few, subst (λ t. IsTextVerdict command t v) (same ∙ whole) is),
+          let whole : bytes ≡ all = all_read left new bytes all took over told in
+          inl (subst (λ (xs : List ℕ). length xs ≤ longest) whole few, subst (λ t. IsTextVerdict command t v) (same ∙ whole) is),
     )
 
 pub decides_long : (command : Command) (left new : Option (List ℕ)) (before now : ℕ) (v : Verdict) → v ≡ refusal (codes "too long")

@@ -14,5 +14,8 @@ returns-in_ok-line-in-Err-BadToken c =
 
 pub returns-in_ok-line-in-Err-NumberTooLarge : goal.returns-in_ok-line-in-Err-NumberTooLarge
 returns-in_ok-line-in-Err-NumberTooLarge c =
-    inl (number_too_large c.in-Err-NumberTooLarge.span, subst (IsFaultOf c.args.text.now) c.in-Err-NumberTooLarge.field-0-is c.in-Err-NumberTooLarge.ensures.err,
-    c.in_ok-line-in-Err-NumberTooLarge.ensures)
+    inl (
+      number_too_large c.in-Err-NumberTooLarge.span,
+      subst (IsFaultOf c.args.text.now) c.in-Err-NumberTooLarge.field-0-is c.in-Err-NumberTooLarge.ensures.err,
+      c.in_ok-line-in-Err-NumberTooLarge.ensures,
+    )
