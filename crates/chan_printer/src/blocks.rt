@@ -1,13 +1,14 @@
 //! Statements, blocks and how they end.
 #![tactic(auto, using(surface_spelling::proofs::Bytes::byte_rules, surface_spelling::proofs::SpelledBlocks::block_is, surface_spelling::proofs::SpelledBlocks::statements, surface_spelling::proofs::SpelledBlocks::lasts, std::proofs::lemmas::Grind::common_steps), unfolding(surface_spelling::specs::Blocks::stmts))]
+
 ghost use Rattle.std.specs.Prelude.{◌≡◌, ◌+◌, ◌++◌, IfOk, OnOk};
 ghost use Rattle.surface_spelling.specs.Layout.{bytes, closing, step};
 ghost use Rattle.surface_spelling.specs.Blocks as spec;
 
 use crate::heads::{
-    put_access, put_arm_head, put_branch_head, put_call, put_condition, put_let_fork, put_let_name, put_let_pair,
-    put_let_pat, put_let_two_pats, put_loop_head, put_match_head, put_sent, put_target,
-    put_task_head, put_term_and_number, put_two_terms,
+    put_access, put_arm_head, put_branch_head, put_call, put_condition, put_let_fork, put_let_name,
+    put_let_pair, put_let_pat, put_let_two_pats, put_loop_head, put_match_head, put_sent,
+    put_target, put_task_head, put_term_and_number, put_two_terms,
 };
 use crate::operands::{put_path, put_proof, put_values};
 use crate::words::{Spell, put, put_line};
@@ -17,6 +18,9 @@ use std::alloc::Global;
 
 /// How much deeper the lines of a block stand.
 const STEP: usize = 4;
+
+/// What stands between the two blocks of an `if` or a `branch`.
+const ELSE: &[u8] = b" else ";
 
 /// No depth that memory can hold comes near the limit of `usize`.
 fn deeper(depth: usize) -> Result<usize, Memory>
@@ -52,12 +56,7 @@ pub fn put_block(
 
 /// Each statement on a line of its own.
 #[cycle(blocks)]
-fn put_stmts(
-    alloc: Global,
-    text: &mut Vec<u8>,
-    stmts: &[Stmt],
-    depth: usize,
-) -> Result<(), Memory>
+fn put_stmts(alloc: Global, text: &mut Vec<u8>, stmts: &[Stmt], depth: usize) -> Result<(), Memory>
     ensures { OnOk result (text.new.items ≡ text.old.items ++ bytes (spec.stmts depth stmts.now)) }
 {
     for stmt in stmts {
@@ -78,7 +77,10 @@ fn put_stmt(alloc: Global, text: &mut Vec<u8>, stmt: &Stmt, depth: usize) -> Res
             term.spell(alloc, text)
         }
         Stmt::Mul {
-            name, left, right, ..
+            name,
+            left,
+            right,
+            ..
         } => {
             put_let_name(text, name)?;
             put(text, b"mul")?;
@@ -279,7 +281,7 @@ fn put_last(alloc: Global, text: &mut Vec<u8>, last: &Last, depth: usize) -> Res
         } => {
             put_condition(alloc, text, left, right)?;
             put_block(alloc, text, yes, depth)?;
-            put(text, b" else ")?;
+            put(text, ELSE)?;
             put_block(alloc, text, no, depth)
         }
         Last::Match {
@@ -308,7 +310,7 @@ fn put_last(alloc: Global, text: &mut Vec<u8>, last: &Last, depth: usize) -> Res
         } => {
             put_branch_head(alloc, text, channel, path.as_slice(), proof, bit, rest)?;
             put_block(alloc, text, yes, depth)?;
-            put(text, b" else ")?;
+            put(text, ELSE)?;
             put_block(alloc, text, no, depth)
         }
         Last::Absurd { proof, .. } => {

@@ -1,5 +1,6 @@
 //! Protocols and functions.
 #![tactic(auto, using(surface_spelling::proofs::Bytes::byte_rules, std::proofs::lemmas::Grind::common_steps), unfolding(surface_spelling::specs::Spelling::then_ref, surface_spelling::specs::Spelling::two_refs, surface_spelling::specs::Spelling::alternatives, surface_spelling::specs::Spelling::plain, surface_spelling::specs::Spelling::pbody, surface_spelling::specs::Spelling::proto_head, surface_spelling::specs::Spelling::proto, surface_spelling::specs::Spelling::func_head, surface_spelling::specs::Spelling::func, surface_spelling::specs::Spelling::declaration, surface_spelling::specs::Spelling::declarations))]
+
 ghost use Rattle.std.specs.Prelude.{◌≡◌, ◌++◌, OnOk};
 ghost use Rattle.surface_spelling.specs.Layout.{bytes};
 ghost use Rattle.surface_spelling.specs.Spelling as spec;
@@ -9,9 +10,7 @@ use crate::heads::{put_condition, put_header, put_result_behind};
 use crate::resources::{put_reference, put_res};
 use crate::words::{put, put_in_parens, put_line};
 use chan_base::Memory;
-use chan_syntax::{
-    Body, Bound, Decl, Equation, Ident, Param, Ref, Res, SurfaceFunc, SurfaceProto,
-};
+use chan_syntax::{Body, Bound, Decl, Equation, Ident, Param, Ref, Res, SurfaceFunc, SurfaceProto};
 use std::alloc::Global;
 
 fn put_then_ref(alloc: Global, text: &mut Vec<u8>, next: &Option<Ref>) -> Result<(), Memory>

@@ -1,12 +1,15 @@
 //! The lines of statements, without blocks.
 #![tactic(auto, using(surface_spelling::proofs::Bytes::byte_rules, std::proofs::lemmas::Grind::common_steps), unfolding(surface_spelling::specs::Blocks::start, surface_spelling::specs::Blocks::let_is, surface_spelling::specs::Blocks::call, surface_spelling::specs::Blocks::access, surface_spelling::specs::Blocks::target, surface_spelling::specs::Blocks::task_head, surface_spelling::specs::Blocks::loop_head, surface_spelling::specs::Blocks::let_fork, surface_spelling::specs::Blocks::sent, surface_spelling::specs::Blocks::condition, surface_spelling::specs::Blocks::match_head, surface_spelling::specs::Blocks::as_names, surface_spelling::specs::Blocks::at_most, surface_spelling::specs::Blocks::name_and_binds, surface_spelling::specs::Blocks::header, surface_spelling::specs::Blocks::result_behind, surface_spelling::specs::Blocks::branch_head))]
+
 ghost use Rattle.std.specs.Prelude.{◌≡◌, [], ◌∷◌, ◌++◌, OnOk};
 ghost use Rattle.surface_spelling.specs.Layout.{bytes, line, name as name_word, pair, in_parens, listed, behind_commas};
 ghost use Rattle.surface_spelling.specs.Layout.{number as number_word};
 ghost use Rattle.surface_spelling.specs.Operands as operand;
 ghost use Rattle.surface_spelling.specs.Blocks as spec;
 
-use crate::operands::{put_names_behind, put_pat, put_path, put_proof, put_two_pats, put_value, put_values};
+use crate::operands::{
+    put_names_behind, put_pat, put_path, put_proof, put_two_pats, put_value, put_values,
+};
 use crate::resources::{put_reference, put_res, put_shape};
 use crate::terms::put_binds_behind;
 use crate::words::{Spell, put, put_behind_commas, put_in_parens, put_line, put_number};
@@ -224,7 +227,12 @@ pub fn put_loop_head(
 
 /// `let NAME = fork` and the reference.
 #[tactic(auto, using(surface_spelling::proofs::Bytes::byte_rules, std::proofs::lemmas::Grind::common_steps), unfolding(surface_spelling::specs::Blocks::let_fork))]
-pub fn put_let_fork(alloc: Global, text: &mut Vec<u8>, name: &Ident, proto: &Ref) -> Result<(), Memory>
+pub fn put_let_fork(
+    alloc: Global,
+    text: &mut Vec<u8>,
+    name: &Ident,
+    proto: &Ref,
+) -> Result<(), Memory>
     ensures { OnOk result (text.new.items ≡ text.old.items ++ bytes (spec.let_fork name.now proto.now)) }
 {
     put_let_name(text, name)?;

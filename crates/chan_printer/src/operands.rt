@@ -1,5 +1,6 @@
 //! Values, patterns, paths and proofs.
 #![tactic(auto, using(surface_spelling::proofs::Bytes::byte_rules, std::proofs::lemmas::Grind::common_steps), unfolding(surface_spelling::specs::Operands::values, surface_spelling::specs::Operands::names_behind, surface_spelling::specs::Operands::pat, surface_spelling::specs::Operands::path, surface_spelling::specs::Operands::mention, surface_spelling::specs::Operands::mentions_behind, surface_spelling::specs::Operands::cert, surface_spelling::specs::Operands::instances, surface_spelling::specs::Operands::certificates, surface_spelling::specs::Operands::proof))]
+
 ghost use Rattle.std.specs.Prelude.{◌≡◌, ◌++◌, map, OnOk};
 ghost use Rattle.surface_spelling.specs.Layout.{bytes};
 ghost use Rattle.surface_spelling.specs.Operands as spec;

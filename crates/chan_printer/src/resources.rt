@@ -1,5 +1,6 @@
 //! References, shapes, resources and parameters.
 #![tactic(auto, using(surface_spelling::proofs::Bytes::byte_rules, std::proofs::lemmas::Grind::common_steps), unfolding(surface_spelling::specs::Operands::res, surface_spelling::specs::Operands::param))]
+
 ghost use Rattle.std.specs.Prelude.{◌≡◌, ◌++◌, OnOk};
 ghost use Rattle.surface_spelling.specs.Layout.{bytes};
 ghost use Rattle.surface_spelling.specs.Operands as spec;

@@ -1,5 +1,6 @@
 //! Linear terms, limits and binders.
 #![tactic(auto, using(surface_spelling::proofs::Bytes::byte_rules, std::proofs::lemmas::Grind::common_steps), unfolding(surface_spelling::specs::Operands::product, surface_spelling::specs::Operands::first_part, surface_spelling::specs::Operands::next_part, surface_spelling::specs::Operands::more_parts, surface_spelling::specs::Operands::term, surface_spelling::specs::Operands::sum, surface_spelling::specs::Operands::limit, surface_spelling::specs::Operands::limits, surface_spelling::specs::Operands::binds, surface_spelling::specs::Operands::binds_before, surface_spelling::specs::Operands::binds_behind))]
+
 ghost use Rattle.std.specs.Prelude.{◌≡◌, [], ◌∷◌, ◌++◌, OnOk};
 ghost use Rattle.surface_spelling.specs.Layout.{bytes};
 ghost use Rattle.surface_spelling.specs.Operands as spec;
@@ -63,7 +64,6 @@ impl Spell for Term {
         }
     }
 }
-
 
 /// The mark of a relation, with its spaces.
 fn relation_mark(relation: Relation) -> &'static [u8]

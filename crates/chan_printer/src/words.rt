@@ -1,5 +1,6 @@
 //! Words, numbers, lines and lists.
 #![tactic(auto, using(surface_spelling::proofs::Bytes::byte_rules, crate::proofs::Spaces::repeat_more, std::proofs::lemmas::Grind::common_steps), unfolding(surface_spelling::specs::Layout::behind_commas, surface_spelling::specs::Layout::listed))]
+
 ghost use Rattle.std.specs.Prelude.{◌≡◌, [], ◌∷◌, ◌++◌, List, OnOk};
 ghost use Rattle.std.specs.List.{repeat};
 ghost use Rattle.std.specs.Fmt.{decimal, signed_decimal};
@@ -61,7 +62,6 @@ pub fn put_line(text: &mut Vec<u8>, depth: usize) -> Result<(), Memory>
 impl Spell for Ident {
     ghost pieces = { a_name };
 
-    
     fn spell(&self, _: Global, text: &mut Vec<u8>) -> Result<(), Memory>
         ensures { OnOk result (text.new.items ≡ text.old.items ++ bytes (a_name self.now)) }
     {
@@ -70,7 +70,11 @@ impl Spell for Ident {
 }
 
 /// Each item behind a comma.
-pub fn put_behind_commas<T: Spell>(alloc: Global, text: &mut Vec<u8>, items: &[T]) -> Result<(), Memory>
+pub fn put_behind_commas<T: Spell>(
+    alloc: Global,
+    text: &mut Vec<u8>,
+    items: &[T],
+) -> Result<(), Memory>
     ensures { OnOk result (text.new.items ≡ text.old.items ++ bytes (behind_commas T.pieces items.now)) }
 {
     for item in items {
