@@ -19,6 +19,9 @@ use std::alloc::Global;
 /// How much deeper the lines of a block stand.
 const STEP: usize = 4;
 
+/// What stands between the two blocks of an `if` or a `branch`.
+const ELSE: &[u8] = b" else ";
+
 /// No depth that memory can hold comes near the limit of `usize`.
 fn deeper(depth: usize) -> Result<usize, Memory>
     ensures { IfOk result (λ inner. inner ≡ depth + step) }
@@ -278,7 +281,7 @@ fn put_last(alloc: Global, text: &mut Vec<u8>, last: &Last, depth: usize) -> Res
         } => {
             put_condition(alloc, text, left, right)?;
             put_block(alloc, text, yes, depth)?;
-            put(text, b" else ")?;
+            put(text, ELSE)?;
             put_block(alloc, text, no, depth)
         }
         Last::Match {
@@ -307,7 +310,7 @@ fn put_last(alloc: Global, text: &mut Vec<u8>, last: &Last, depth: usize) -> Res
         } => {
             put_branch_head(alloc, text, channel, path.as_slice(), proof, bit, rest)?;
             put_block(alloc, text, yes, depth)?;
-            put(text, b" else ")?;
+            put(text, ELSE)?;
             put_block(alloc, text, no, depth)
         }
         Last::Absurd { proof, .. } => {

@@ -8,6 +8,8 @@ mod operands;
 mod printing;
 mod resources;
 mod terms;
+#[cfg(test)]
+mod tests;
 mod words;
 
 pub use printing::print;

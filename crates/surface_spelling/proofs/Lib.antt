@@ -1,3 +1,5 @@
 pub mod Bytes
 pub mod Spelled
 pub mod SpelledBlocks
+pub mod Places
+pub mod PlacesOfBlocks

@@ -1,24 +1,14 @@
 -- The words of a tree, by its variant.
-use Rattle.std.proofs.Common.{◌≡◌, ℕ, ◌+◌, Bool, if◌then◌else◌, codes, List, [], ◌∷◌, ◌++◌, Option, refl, ap, ◌∙◌}
+use Rattle.std.proofs.Common.{◌≡◌, codes, [], ◌∷◌, refl}
 use denote.Hole.Carrier.{hidden}
-use mathlib.Core.Former.{this, list_count, list_put}
-use mathlib.Core.List.{map}
-use Rattle.chan_syntax.specs.declared.identifiers.Span.{Span}
 use Rattle.chan_syntax.specs.declared.linear.Term.{Term}
-use Rattle.chan_syntax.specs.declared.linear.Bound.{Bound}
 use Rattle.chan_syntax.specs.declared.resources.Ref.{Ref}
 use Rattle.chan_syntax.specs.declared.resources.Res.{Res}
-use Rattle.chan_syntax.specs.declared.resources.Param.{Param}
-use Rattle.chan_syntax.specs.declared.resources.Shape.{Shape}
 use Rattle.chan_syntax.specs.declared.resources.Shape.TheVariants as s
 use Rattle.chan_syntax.specs.declared.resources.Shape.TheBlock.{hidden-the_row-Res-0}
 use Rattle.chan_syntax.specs.declared.operands.Supply.{Supply}
 use Rattle.chan_syntax.specs.declared.operands.Supply.TheVariants as v
 use Rattle.chan_syntax.specs.declared.operands.Supply.TheBlock.{hidden-the_row-Supply-0}
-use Rattle.chan_syntax.specs.declared.operands.Pat.{Pat}
-use Rattle.chan_syntax.specs.declared.operands.Letter.{Letter}
-use Rattle.chan_syntax.specs.declared.operands.Proof.{Proof}
-use Rattle.text_tokens.specs.Text.{Piece}
 use Rattle.surface_spelling.specs.Layout.{keyword, space, in_parens, pair}
 use Rattle.surface_spelling.specs.Operands.{term, binds_before, reference, shape, boxed_res, res, value, boxed_value}
 

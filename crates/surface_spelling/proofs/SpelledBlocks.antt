@@ -1,5 +1,5 @@
 -- The words of statements and of how blocks end, by their variants.
-use Rattle.std.proofs.Common.{◌≡◌, ℕ, ◌+◌, Bool, if◌then◌else◌, codes, List, [], ◌∷◌, ◌++◌, Option, refl, ap, ◌∙◌}
+use Rattle.std.proofs.Common.{◌≡◌, ℕ, ◌+◌, Bool, if◌then◌else◌, codes, List, [], ◌∷◌, ◌++◌, Option, refl, ap}
 use denote.Hole.Carrier.{hidden}
 use mathlib.Core.Former.{this, list_count, list_put}
 use mathlib.Core.List.{map}
@@ -16,14 +16,12 @@ use Rattle.chan_syntax.specs.declared.operands.Proof.{Proof}
 use Rattle.chan_syntax.specs.declared.surface_tree.Start.{Start}
 use Rattle.chan_syntax.specs.declared.surface_tree.Stmt.{Stmt}
 use Rattle.chan_syntax.specs.declared.surface_tree.Stmt.TheVariants as s
-use Rattle.chan_syntax.specs.declared.surface_tree.Last.{Last}
 use Rattle.chan_syntax.specs.declared.surface_tree.Last.TheVariants as l
 use Rattle.chan_syntax.specs.declared.surface_tree.Last.TheBlock.{hidden-the_row-Stmt-0, hidden-the_row-Last-1, back-the_row-Stmt}
 use Rattle.chan_syntax.specs.declared.surface_tree.Block.{Block}
-use Rattle.text_tokens.specs.Text.{Piece}
 use Rattle.surface_spelling.specs.Layout.{keyword, mark, name, number, space, step, line, closing, in_braces, pair}
-use Rattle.surface_spelling.specs.Operands.{term, reference, shape, res, binds_behind, param, value, values, names_behind, pat, two_pats, path, proof}
-use Rattle.surface_spelling.specs.Blocks.{let_is, call, access, target, start, task_head, loop_head, let_fork, sent, condition, match_head, arm_head, branch_head, stmt, last, row_of_stmts, boxed_last, stmts, block}
+use Rattle.surface_spelling.specs.Operands.{term, values, names_behind, pat, two_pats, path, proof}
+use Rattle.surface_spelling.specs.Blocks.{let_is, call, access, target, task_head, loop_head, let_fork, sent, condition, match_head, arm_head, branch_head, stmt, last, row_of_stmts, boxed_last, stmts, block}
 
 stmts_row : (d : ℕ) (xs : List Stmt) → row_of_stmts d (back-the_row-Stmt (list_count (this {0}) (map ((this {0}).shape Stmt) xs) 0) (list_put (this {0}) Stmt xs 0 (tt {0}))) ≡ stmts d xs
 unfolding row_of_stmts stmts

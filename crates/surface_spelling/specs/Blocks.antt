@@ -1,5 +1,5 @@
 -- The words of statements, of how blocks end, and of blocks.
-use Rattle.std.specs.Prelude.{ℕ, ◌+◌, Bool, if◌then◌else◌, codes, List, [], ◌∷◌, ◌++◌}
+use Rattle.std.specs.Prelude.{ℕ, ◌+◌, if◌then◌else◌, codes, List, [], ◌∷◌, ◌++◌}
 use Rattle.chan_syntax.specs.declared.linear.Term.{Term}
 use Rattle.chan_syntax.specs.declared.linear.Bound.{Bound}
 use Rattle.chan_syntax.specs.declared.resources.Res.{Res}
@@ -12,7 +12,7 @@ use Rattle.chan_syntax.specs.declared.operands.Proof.{Proof}
 use Rattle.chan_syntax.specs.declared.surface_tree.Start.{Start}
 use Rattle.chan_syntax.specs.declared.surface_tree.Stmt.{Stmt, Let, Mul, Div, Rem, Call, Fork, ForkDo', Send1, Recv1, Send, Recv, Close, Wait, Choose, Split, Print, Row_of-Stmt, end_of-Stmt, more_of-Stmt}
 use Rattle.chan_syntax.specs.declared.surface_tree.Last.{Last, Ret, Tail, If', Match', Branch', Absurd, Loop', Again, Row_of-Last, end_of-Last, more_of-Last}
-use Rattle.chan_syntax.specs.declared.surface_tree.Block.{Block, roll-Block}
+use Rattle.chan_syntax.specs.declared.surface_tree.Block.{Block}
 use Rattle.text_tokens.specs.Text.{Piece}
 use Rattle.surface_spelling.specs.Layout.{keyword, mark, name, number, space, step, line, behind_commas, listed, in_parens, pair, closing, in_braces}
 use Rattle.surface_spelling.specs.Operands.{term, reference, shape, res, binds_behind, param, value, values, names_behind, pat, two_pats, path, proof}

@@ -1,6 +1,6 @@
 -- Words, and the separators that stand between them.
 use Rattle.std.specs.Prelude.{ℕ, codes, List, [], ◌∷◌, ◌++◌}
-use Rattle.std.specs.List.{flat_map, repeat}
+use Rattle.std.specs.List.{repeat}
 use Rattle.std.specs.Fmt.{decimal}
 use Rattle.text_tokens.specs.declared.TokenKind.TheVariants as kind
 use Rattle.text_tokens.specs.Text.{Piece, separator, token, text_of}
