@@ -8,8 +8,6 @@ mod operands;
 mod printing;
 mod resources;
 mod terms;
-#[cfg(test)]
-mod tests;
 mod words;
 
 pub use printing::print;

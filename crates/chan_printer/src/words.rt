@@ -51,7 +51,6 @@ fn put_spaces(text: &mut Vec<u8>, count: usize) -> Result<(), Memory>
 }
 
 /// Starts a line at a depth.
-
 pub fn put_line(text: &mut Vec<u8>, depth: usize) -> Result<(), Memory>
     ensures { OnOk result (text.new.items ≡ text.old.items ++ bytes (line depth)) }
 {
