@@ -2,6 +2,7 @@
 //! program well formed.
 #![tactic(auto)]
 
+mod certificates;
 mod identifiers;
 mod linear;
 mod nodes;
