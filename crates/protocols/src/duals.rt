@@ -56,10 +56,3 @@ pub fn dual(alloc: Global, proto: &Proto) -> Result<Proto, Memory>
         span: proto.span,
     })
 }
-
-/// The other end has the other direction and the same message.
-pub fn the_dual_is_the_other_end()
-    ensures twice { spec.TwiceIsNothing }
-    ensures message { spec.SameMessage }
-    ensures branches { spec.MarkGoesToBranches }
-{}
