@@ -1,6 +1,9 @@
 use crate::{dual, dual_ref};
 use chan_base::Memory;
-use chan_syntax::{Equation, Ident, Idents, Proto, Ref, Span, Spans, Terms};
+use chan_syntax::{
+    Equation, Ident, Idents, Proto, Ref, Span, Spans, Terms, WrittenCert, WrittenMention,
+    WrittenMentions,
+};
 use std::alloc::Global;
 use std::test::Fail;
 
@@ -45,5 +48,28 @@ fn a_mark_is_set(rt: HostRuntime) -> Result<(), Fail> {
     let alloc = rt.alloc();
     let other = dual_ref(alloc, &bye_end(alloc)?)?;
     assert!(rt; other.dual);
+    Ok(())
+}
+
+#[test]
+fn a_written_certificate_keeps_its_numbers(rt: HostRuntime) -> Result<(), Fail> {
+    let alloc = rt.alloc();
+    let mention = WrittenMention {
+        negative: true,
+        factor: 3,
+        factor_span: NOWHERE,
+        index: 1,
+        index_span: NOWHERE,
+        span: NOWHERE,
+    };
+    let written = WrittenCert {
+        divisor: 2,
+        divisor_span: None,
+        mentions: WrittenMentions::from_slice(alloc, &[mention])?,
+        span: NOWHERE,
+    };
+    let cert = written.cert(alloc)?;
+    assert_eq!(rt; cert.divisor, 2);
+    assert_eq!(rt; cert.mentions.as_slice()[0].factor, -3);
     Ok(())
 }
