@@ -1,3 +1,4 @@
 pub mod Reading
 pub mod Bodies
 pub mod Formed
+pub mod Bounds

@@ -2,6 +2,8 @@
 //! program well formed.
 #![tactic(auto)]
 
+mod certificates;
+mod copies;
 mod identifiers;
 mod linear;
 mod nodes;
@@ -10,6 +12,7 @@ mod resources;
 mod surface_tree;
 mod wellformed;
 
+pub use copies::{copy_names, copy_spans, copy_terms};
 pub use identifiers::{Ident, Idents, Span, Spans};
 pub use linear::{Bound, Limit, Limits, Part, Relation, Term, TermParts, Terms};
 pub use nodes::{Func, Funcs, Node, Nodes, Parts};

@@ -1,0 +1,4 @@
+pub mod Names
+pub mod Ranges
+pub mod Adding
+pub mod Terms
