@@ -12,11 +12,11 @@ use Rattle.core_language.specs.Computing.{Env}
 use Rattle.core_language.specs.Programs.{Body}
 use Rattle.core_language.specs.Configurations as core
 use Rattle.core_language.specs.Endings.{ending_of, Finished, Rounds, is_ended}
-use Rattle.chan_syntax.specs.declared.nodes.Node.{Node}
-use Rattle.chan_syntax.specs.declared.nodes.Parts.{Parts}
-use Rattle.chan_syntax.specs.Bodies.{program_of, opened, rest}
-use Rattle.chan_syntax.specs.Formed.{IsFirstForm}
-use Rattle.chan_syntax.proofs.Forests.{rest_opened}
+use Rattle.core_programs.specs.declared.nodes.Node.{Node}
+use Rattle.core_programs.specs.declared.nodes.Parts.{Parts}
+use Rattle.core_programs.specs.Bodies.{program_of, opened, rest}
+use Rattle.core_programs.specs.Formed.{IsFirstForm}
+use Rattle.core_programs.proofs.Forests.{rest_opened}
 use Rattle.chan_machine.specs.declared.values.Value.{Value}
 use Rattle.chan_machine.specs.declared.tasks.Bind.{Bind}
 use Rattle.chan_machine.specs.declared.tasks.Frame.{Frame}

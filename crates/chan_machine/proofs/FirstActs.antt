@@ -11,11 +11,11 @@ use Rattle.core_language.specs.Configurations.{Config, Running}
 use Rattle.core_language.specs.Acts.{with_result, act_of, at, returned}
 use Rattle.core_language.specs.Acts as act
 use Rattle.core_language.specs.Steps.{Moves, Event, effect, step_at, machine_step}
-use Rattle.chan_syntax.specs.declared.nodes.Node.{Node}
-use Rattle.chan_syntax.specs.declared.nodes.Node.TheVariants as node
+use Rattle.core_programs.specs.declared.nodes.Node.{Node}
+use Rattle.core_programs.specs.declared.nodes.Node.TheVariants as node
 use Rattle.chan_syntax.specs.Reading.{term_of, supply_of}
-use Rattle.chan_syntax.specs.Bodies.{opened}
-use Rattle.chan_syntax.specs.Formed.{IsFirstNode}
+use Rattle.core_programs.specs.Bodies.{opened}
+use Rattle.core_programs.specs.Formed.{IsFirstNode}
 
 holds-pos : (k : ℕ) → k < 2 ^ 63 → machine.holds (pos k) ≡ true
 holds-pos k small = grind (arith, nat_tests)

@@ -1,6 +1,6 @@
 -- Frames of a task that fit.
 use Rattle.std.proofs.Common.{◌≡◌, ℕ, ◌-◌, ◌<◌, List, [], ◌∷◌, length, Some, slice_get, set, refl, sym, ap, ◌∙◌, subst}
-use Rattle.chan_syntax.specs.declared.nodes.Node.{Node}
+use Rattle.core_programs.specs.declared.nodes.Node.{Node}
 use Rattle.chan_machine.specs.declared.tasks.Frame.{Frame}
 use Rattle.chan_machine.specs.declared.tasks.Bind.{Bind}
 use Rattle.chan_machine.specs.Fits.{FramesFit}

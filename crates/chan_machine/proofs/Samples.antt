@@ -1,8 +1,8 @@
 -- The program that the tests run is of the first form.
 use Rattle.std.proofs.Common.{◌≡◌, ℕ, zero, suc, ◌+◌, ◌<◌, ◌≤◌, [], ◌∷◌, Some, slice_get, refl, subst, arith}
-use Rattle.chan_syntax.specs.declared.nodes.Node.{Node}
-use Rattle.chan_syntax.specs.Formed.{nexts, IsFirstNode, IsFirstForm}
-use Rattle.chan_syntax.proofs.Chains.{numbered}
+use Rattle.core_programs.specs.declared.nodes.Node.{Node}
+use Rattle.core_programs.specs.Formed.{nexts, IsFirstNode, IsFirstForm}
+use Rattle.core_programs.proofs.Chains.{numbered}
 use Rattle.chan_machine.specs.Samples.{sample_main, prints_seven}
 
 node_at : (n : ℕ) (x : Node) → slice_get prints_seven.nodes n ≡ Some x

@@ -14,8 +14,8 @@ use Rattle.core_language.specs.Configurations as core
 use Rattle.core_language.specs.Acts.{act_of}
 use Rattle.core_language.specs.Steps.{Step, IsAbsent, IsHalted, effect, step_at, machine_step, step}
 use Rattle.core_language.proofs.Halting.{halts_or_steps}
-use Rattle.chan_syntax.specs.declared.nodes.Parts.{Parts}
-use Rattle.chan_syntax.specs.Bodies.{program_of}
+use Rattle.core_programs.specs.declared.nodes.Parts.{Parts}
+use Rattle.core_programs.specs.Bodies.{program_of}
 use Rattle.chan_machine.specs.declared.tasks.Task.{Task}
 use Rattle.chan_machine.specs.declared.events.Stepped.{Stepped}
 use Rattle.chan_machine.specs.declared.events.Stepped.TheVariants as stepped

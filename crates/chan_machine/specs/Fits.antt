@@ -6,9 +6,9 @@ use Rattle.core_language.specs.Computing.{machine}
 use Rattle.core_language.specs.Configurations as core
 use Rattle.core_language.specs.Acts.{act_of}
 use Rattle.core_language.specs.Steps.{effect}
-use Rattle.chan_syntax.specs.declared.nodes.Node.{Node}
-use Rattle.chan_syntax.specs.declared.nodes.Parts.{Parts}
-use Rattle.chan_syntax.specs.Bodies.{program_of}
+use Rattle.core_programs.specs.declared.nodes.Node.{Node}
+use Rattle.core_programs.specs.declared.nodes.Parts.{Parts}
+use Rattle.core_programs.specs.Bodies.{program_of}
 use Rattle.chan_machine.specs.declared.tasks.Frame.{Frame}
 use Rattle.chan_machine.specs.declared.tasks.Task.{Task}
 use Rattle.chan_machine.specs.declared.events.Stepped.{Stepped}

@@ -15,9 +15,9 @@ use Rattle.core_language.specs.Configurations as configuration
 use Rattle.core_language.specs.Steps as steps
 use Rattle.core_language.specs.Rounds as rounds
 use Rattle.core_language.specs.Endings as endings
-use Rattle.chan_syntax.specs.declared.nodes.Node.{Node}
-use Rattle.chan_syntax.specs.declared.nodes.Parts.{Parts}
-use Rattle.chan_syntax.specs.Bodies.{rest}
+use Rattle.core_programs.specs.declared.nodes.Node.{Node}
+use Rattle.core_programs.specs.declared.nodes.Parts.{Parts}
+use Rattle.core_programs.specs.Bodies.{rest}
 use Rattle.chan_machine.specs.declared.values.Value.{Value, Int, Unit, Pair', Left', Right', End, Row_of-Value, end_of-Value, more_of-Value}
 use Rattle.chan_machine.specs.declared.tasks.Bind.{Bind}
 use Rattle.chan_machine.specs.declared.tasks.Frame.{Frame}

@@ -4,9 +4,9 @@ use Rattle.chan_syntax.specs.declared.identifiers.Span.{Span}
 use Rattle.chan_syntax.specs.declared.linear.Bound.{Bound}
 use Rattle.chan_syntax.specs.declared.operands.Supply.TheVariants as supply
 use Rattle.chan_syntax.specs.declared.resources.Shape.TheVariants as shape
-use Rattle.chan_syntax.specs.declared.nodes.Node.TheVariants as node
-use Rattle.chan_syntax.specs.declared.nodes.Func.{Func}
-use Rattle.chan_syntax.specs.declared.nodes.Parts.{Parts}
+use Rattle.core_programs.specs.declared.nodes.Node.TheVariants as node
+use Rattle.core_programs.specs.declared.nodes.Func.{Func}
+use Rattle.core_programs.specs.declared.nodes.Parts.{Parts}
 
 abbrev pub nowhere : Span
 nowhere = record { start = 0; stop = 0; line = 0; column = 0 }

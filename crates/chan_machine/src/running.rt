@@ -2,8 +2,8 @@
 ghost use Rattle.std.specs.Prelude.{◌≡◌, ◌≤◌, ◌++◌, map, [], false, IfOk, OnOk};
 ghost use Rattle.core_language.specs.Endings.{ending_of};
 ghost use Rattle.core_language.specs.Rounds.{movers, round as round_of, run_of};
-ghost use Rattle.chan_syntax.specs.Formed.{IsFirstForm};
-ghost use Rattle.chan_syntax.specs.Bodies.{program_of};
+ghost use Rattle.core_programs.specs.Formed.{IsFirstForm};
+ghost use Rattle.core_programs.specs.Bodies.{program_of};
 ghost use Rattle.chan_machine.specs.Reading.{config_of, entry_of, ending_as};
 ghost use Rattle.chan_machine.specs.Fits.{Fits, is_moved};
 ghost use Rattle.chan_machine.specs.Runs.{run_at, shown};
@@ -12,7 +12,7 @@ use crate::configurations::Config;
 use crate::events::{Ending, Entries, Entry, Event, Stepped};
 use crate::stepping::{start, step};
 use chan_base::{Memory, Name};
-use chan_syntax::Program;
+use core_programs::Program;
 use sqlite_items::Items;
 use std::alloc::Global;
 

@@ -3,9 +3,9 @@ ghost use Rattle.std.specs.Prelude.{◌≡◌, ◌⊎◌, List, ℕ, ◌<◌, �
 ghost use Rattle.core_language.specs.Computing.{Env, Done, machine, sum_of};
 ghost use Rattle.core_language.specs.Configurations.{start as start_of};
 ghost use Rattle.core_language.specs.Steps.{machine_step, step as step_without_limits};
-ghost use Rattle.chan_syntax.specs.Formed.{IsNumber, IsFirstForm};
+ghost use Rattle.core_programs.specs.Formed.{IsNumber, IsFirstForm};
 ghost use Rattle.chan_syntax.specs.Reading.{term_of};
-ghost use Rattle.chan_syntax.specs.Bodies.{program_of};
+ghost use Rattle.core_programs.specs.Bodies.{program_of};
 ghost use Rattle.chan_machine.specs.Reading.{config_of, step_of};
 ghost use Rattle.chan_machine.specs.Fits.{Fits, FramesFit, IsHalt, Makes, is_moved};
 
@@ -13,7 +13,8 @@ use crate::configurations::{Config, Put, Puts};
 use crate::events::{Event, Stepped};
 use crate::tasks::{Frame, Task};
 use chan_base::{Memory, Name};
-use chan_syntax::{Node, Program, Term};
+use chan_syntax::Term;
+use core_programs::{Node, Program};
 use sqlite_items::Items;
 use std::alloc::Global;
 use std::collections::BTreeMap;

@@ -3,7 +3,8 @@ ghost use Rattle.chan_machine.specs.Samples.{no_bound, sample_main, prints_seven
 
 use crate::{Ending, Event, Stepped, replay, start, step};
 use chan_base::{Memory, Name};
-use chan_syntax::{Bound, Func, Ident, Node, Part, Parts, Program, Res, Shape, Span, Supply, Term};
+use chan_syntax::{Bound, Ident, Part, Res, Shape, Span, Supply, Term};
+use core_programs::{Func, Node, Parts, Program};
 use sqlite_items::Items;
 use std::alloc::Global;
 use std::test::Fail;

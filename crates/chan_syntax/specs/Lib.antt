@@ -1,4 +1,2 @@
 pub mod Reading
-pub mod Bodies
-pub mod Formed
 pub mod Bounds

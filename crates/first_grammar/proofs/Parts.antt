@@ -2,12 +2,12 @@
 use Rattle.std.proofs.Common.{◌≡◌, ℕ, zero, suc, ◌+◌, ◌<◌, ◌≤◌, ◌^◌, List, [], ◌∷◌, ◌++◌, length, Some, slice_get, refl, sym, ap, ◌∙◌, subst, arith, append_assoc, length-append}
 use Rattle.core_language.specs.Programs.{Body}
 use Rattle.chan_syntax.specs.declared.operands.Supply.TheVariants as supply
-use Rattle.chan_syntax.specs.declared.nodes.Node.{Node}
-use Rattle.chan_syntax.specs.declared.nodes.Node.TheVariants as node
-use Rattle.chan_syntax.specs.Bodies.{rest, opened, program_of}
-use Rattle.chan_syntax.specs.Formed.{nexts, IsNumbered, IsFirstNode, IsFirstForm}
-use Rattle.chan_syntax.proofs.Chains.{IsChain, numbered}
-use Rattle.chan_syntax.proofs.Forests.{rest_opened}
+use Rattle.core_programs.specs.declared.nodes.Node.{Node}
+use Rattle.core_programs.specs.declared.nodes.Node.TheVariants as node
+use Rattle.core_programs.specs.Bodies.{rest, opened, program_of}
+use Rattle.core_programs.specs.Formed.{nexts, IsNumbered, IsFirstNode, IsFirstForm}
+use Rattle.core_programs.proofs.Chains.{IsChain, numbered}
+use Rattle.core_programs.proofs.Forests.{rest_opened}
 use Rattle.first_grammar.specs.Printing.{body_printing, program_with, program_printing, no_span, number_term, nodes_from, main_func, parts_printing, ArePlain}
 
 slice_get-front : (pre xs : List Node) (x : Node) (at : ℕ) → length pre ≡ at → slice_get (pre ++ x ∷ xs) at ≡ Some x

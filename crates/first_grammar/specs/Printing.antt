@@ -5,15 +5,15 @@ use Rattle.core_language.specs.Resources as resource
 use Rattle.core_language.specs.Operands as operand
 use Rattle.core_language.specs.Programs.{Body, Print, Ret, Program}
 use Rattle.core_language.specs.Programs as program
-use Rattle.chan_syntax.specs.Bodies.{no_proof}
+use Rattle.core_programs.specs.Bodies.{no_proof}
 use Rattle.chan_syntax.specs.declared.identifiers.Span.{Span}
 use Rattle.chan_syntax.specs.declared.linear.Term.{Term}
 use Rattle.chan_syntax.specs.declared.resources.Shape.TheVariants as shape
 use Rattle.chan_syntax.specs.declared.operands.Supply.TheVariants as supply
-use Rattle.chan_syntax.specs.declared.nodes.Node.{Node}
-use Rattle.chan_syntax.specs.declared.nodes.Node.TheVariants as node
-use Rattle.chan_syntax.specs.declared.nodes.Func.{Func}
-use Rattle.chan_syntax.specs.declared.nodes.Parts.{Parts}
+use Rattle.core_programs.specs.declared.nodes.Node.{Node}
+use Rattle.core_programs.specs.declared.nodes.Node.TheVariants as node
+use Rattle.core_programs.specs.declared.nodes.Func.{Func}
+use Rattle.core_programs.specs.declared.nodes.Parts.{Parts}
 
 -- the place of what no text has
 abbrev pub nowhere : program.Span

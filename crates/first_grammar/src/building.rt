@@ -1,12 +1,11 @@
 //! The program that prints numbers, as nodes.
 ghost use Rattle.std.specs.Prelude.{◌≡◌, ◌<◌, ◌^◌, ◌+◌, [], length, IfOk};
-ghost use Rattle.chan_syntax.specs.Bodies.{program_of};
+ghost use Rattle.core_programs.specs.Bodies.{program_of};
 ghost use Rattle.first_grammar.specs.Printing.{program_printing as printing, main_func, parts_printing, nodes_from, ArePlain};
 
 use chan_base::Memory;
-use chan_syntax::{
-    Bound, Func, Ident, Node, Nodes, Part, Parts, Program, Res, Shape, Span, Supply, Term,
-};
+use chan_syntax::{Bound, Ident, Part, Res, Shape, Span, Supply, Term};
+use core_programs::{Func, Node, Nodes, Parts, Program};
 use sqlite_items::Items;
 use std::alloc::Global;
 

@@ -1,7 +1,7 @@
 //! Which tokens are a program, and the program that they are.
 ghost use Rattle.std.specs.Prelude.{◌≡◌, ◌<◌, ℕ, List, [], if◌then◌else◌, length, Some, None, IfOk, IfSome, IfNone};
 ghost use Rattle.std.specs.Option.{option_copied};
-ghost use Rattle.chan_syntax.specs.Bodies.{program_of};
+ghost use Rattle.core_programs.specs.Bodies.{program_of};
 ghost use Rattle.chan_lexer.specs.Lexed.{tokens_of};
 ghost use Rattle.first_grammar.specs.Grammar.{Reads, IsNoProgram};
 ghost use Rattle.first_grammar.specs.Printing.{program_printing};
@@ -11,7 +11,7 @@ use crate::building::program_printing as built;
 use crate::words::{Word, words};
 use chan_base::Memory;
 use chan_lexer::Tokens;
-use chan_syntax::Program;
+use core_programs::Program;
 use sqlite_items::Items;
 use std::alloc::Global;
 

@@ -1,7 +1,7 @@
 use Rattle.std.proofs.Common.{ap, map, ◌∙◌, List}
 use Rattle.core_language.specs.Configurations.{Config, start}
 use Rattle.core_language.specs.Rounds.{Run, run_of}
-use Rattle.chan_syntax.specs.Bodies.{program_of}
+use Rattle.core_programs.specs.Bodies.{program_of}
 use Rattle.chan_machine.specs.declared.events.Entry.{Entry}
 use Rattle.chan_machine.specs.Reading.{entry_of}
 use Rattle.chan_machine.proofs.running.replay.Goals as goal

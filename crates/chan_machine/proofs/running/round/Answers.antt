@@ -1,6 +1,6 @@
 use Rattle.std.proofs.Common.{sym, ◌∙◌}
 use Rattle.std.proofs.lemmas.Result.{IfOk-weaker}
-use Rattle.chan_syntax.specs.Bodies.{program_of}
+use Rattle.core_programs.specs.Bodies.{program_of}
 use Rattle.chan_machine.specs.Reading.{task_of}
 use Rattle.chan_machine.proofs.Maps.{keys-alone}
 use Rattle.chan_machine.proofs.RoundOfOne.{round_is, no_mover}

@@ -1,6 +1,6 @@
 use Rattle.std.proofs.Common.{◌≡◌, ◌-◌, ◌≤◌}
 use Rattle.core_language.specs.Rounds.{run_of}
-use Rattle.chan_syntax.specs.Bodies.{program_of}
+use Rattle.core_programs.specs.Bodies.{program_of}
 use Rattle.chan_machine.specs.Fits.{Fits}
 use Rattle.chan_machine.specs.Runs.{run_at}
 use Rattle.chan_machine.proofs.running.run_rounds.Given as goal

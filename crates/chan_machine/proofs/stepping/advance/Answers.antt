@@ -1,5 +1,5 @@
 use Rattle.std.proofs.Common.{◌≡◌, ◌-◌, List, length, slice_get, Some, sym, subst, refl}
-use Rattle.chan_syntax.specs.Formed.{LeadBelow}
+use Rattle.core_programs.specs.Formed.{LeadBelow}
 use Rattle.chan_machine.specs.declared.tasks.Frame.{Frame}
 use Rattle.chan_machine.proofs.Frames.{lone_frame, set_fits}
 use Rattle.chan_machine.proofs.stepping.advance.Goals as goal

@@ -1,5 +1,5 @@
 use Rattle.std.proofs.Common.{sym, subst}
-use Rattle.chan_syntax.specs.Formed.{IsFirstForm}
+use Rattle.core_programs.specs.Formed.{IsFirstForm}
 use Rattle.chan_machine.proofs.Samples.{first_form}
 use Rattle.chan_machine.proofs.tests.program.Goals as goal
 

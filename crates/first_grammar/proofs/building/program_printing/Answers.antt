@@ -1,6 +1,6 @@
 use Rattle.std.proofs.Common.{sym, ap, subst, ◌∙◌}
-use Rattle.chan_syntax.specs.Bodies.{program_of}
-use Rattle.chan_syntax.specs.Formed.{IsFirstForm}
+use Rattle.core_programs.specs.Bodies.{program_of}
+use Rattle.core_programs.specs.Formed.{IsFirstForm}
 use Rattle.first_grammar.proofs.Parts.{first_form, program_of-printing}
 use Rattle.first_grammar.proofs.building.program_printing.Goals as goal
 

@@ -4,10 +4,10 @@ use Rattle.core_language.specs.Operands as operand
 use Rattle.core_language.specs.Programs as core
 use Rattle.chan_syntax.specs.declared.identifiers.Span.{Span}
 use Rattle.chan_syntax.specs.declared.resources.Param.{Param}
-use Rattle.chan_syntax.specs.declared.nodes.Node.{Node}
-use Rattle.chan_syntax.specs.declared.nodes.Node.TheVariants as node
-use Rattle.chan_syntax.specs.declared.nodes.Func.{Func}
-use Rattle.chan_syntax.specs.declared.nodes.Parts.{Parts}
+use Rattle.core_programs.specs.declared.nodes.Node.{Node}
+use Rattle.core_programs.specs.declared.nodes.Node.TheVariants as node
+use Rattle.core_programs.specs.declared.nodes.Func.{Func}
+use Rattle.core_programs.specs.declared.nodes.Parts.{Parts}
 use Rattle.chan_syntax.specs.Reading.{term_of, bound_of, shape_of, res_of, proto_of, supply_of}
 
 abbrev pub span_of : Span → core.Span

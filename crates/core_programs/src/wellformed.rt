@@ -2,11 +2,11 @@
 ghost use Rattle.std.specs.Prelude.{◌≡◌, ◌<◌, ◌≤◌, length, slice_get, Some, IfOk, OnErr, IsErrOf};
 ghost use Rattle.std.specs.Option.{option_map};
 ghost use Rattle.core_language.specs.Programs.{main_function};
-ghost use Rattle.chan_syntax.specs.Bodies.{opened, rest, program_of};
-ghost use Rattle.chan_syntax.specs.Formed.{IsFirstForm, IsFirstNode, LeadBelow};
+ghost use Rattle.core_programs.specs.Bodies.{opened, rest, program_of};
+ghost use Rattle.core_programs.specs.Formed.{IsFirstForm, IsFirstNode, LeadBelow};
 
-use crate::identifiers::{Idents, Span};
 use crate::nodes::{Node, Parts};
+use chan_syntax::{Idents, Span};
 use std::marker::Model;
 
 /// What is wrong with a form.
@@ -43,14 +43,14 @@ pub struct Program {
 }
 
 impl Model for Program {
-    ghost use Rattle.chan_syntax.specs.declared.nodes.Parts.{Parts};
-    ghost use Rattle.chan_syntax.specs.contracts.nodes.Parts as whole;
+    ghost use Rattle.core_programs.specs.declared.nodes.Parts.{Parts};
+    ghost use Rattle.core_programs.specs.contracts.nodes.Parts as whole;
 
     ghost Value = { Parts };
 
     ghost coded = { whole.the_row.coded };
 
-    ghost use Rattle.chan_syntax.specs.Formed.{IsFirstForm};
+    ghost use Rattle.core_programs.specs.Formed.{IsFirstForm};
 
     ghost view = { λ p. p.parts };
 

@@ -2,10 +2,10 @@
 use Rattle.std.proofs.Common.{◌≡◌, ℕ, zero, suc, ◌+◌, ◌-◌, ◌<◌, ◌≤◌, ◌^◌, List, [], ◌∷◌, length, Some, slice_get, inl, inr, ⊎_elim, replicate, refl, sym, ap, ◌∙◌, subst, arith, ◌⊎◌}
 use Rattle.std.proofs.lemmas.Option.{slice_get_cases}
 use Rattle.std.proofs.lemmas.Bool.{cases_lt}
-use Rattle.chan_syntax.specs.declared.nodes.Node.{Node}
-use Rattle.chan_syntax.specs.declared.nodes.Func.{Func}
-use Rattle.chan_syntax.specs.declared.nodes.Parts.{Parts}
-use Rattle.chan_syntax.specs.Formed.{nexts, Leads, IsNumbered}
+use Rattle.core_programs.specs.declared.nodes.Node.{Node}
+use Rattle.core_programs.specs.declared.nodes.Func.{Func}
+use Rattle.core_programs.specs.declared.nodes.Parts.{Parts}
+use Rattle.core_programs.specs.Formed.{nexts, Leads, IsNumbered}
 
 -- each node names the next one, and the last names none
 abbrev pub IsChain : List Node → Type 0

@@ -1,5 +1,5 @@
-use Rattle.chan_syntax.proofs.Forests.{read_at, rest_opened}
-use Rattle.chan_syntax.proofs.wellformed.Program.node.Goals as goal
+use Rattle.core_programs.proofs.Forests.{read_at, rest_opened}
+use Rattle.core_programs.proofs.wellformed.Program.node.Goals as goal
 
 pub returns-clause-opens : goal.returns-clause-opens
 returns-clause-opens c =

@@ -1,8 +1,5 @@
 //! The core program: functions whose bodies are numbered nodes.
-use crate::identifiers::{Ident, Span};
-use crate::linear::{Bound, Term};
-use crate::operands::Supply;
-use crate::resources::{Params, Protos, Res};
+use chan_syntax::{Bound, Ident, Params, Protos, Res, Span, Supply, Term};
 use sqlite_items::Items;
 
 pub type Funcs = Items<Func>;

@@ -3,10 +3,10 @@ use Rattle.std.specs.Prelude.{◌≡◌, ℕ, ◌<◌, ◌^◌, codes, pos, fals
 use Rattle.core_language.specs.Terms as core
 use Rattle.core_language.specs.Resources as resource
 use Rattle.chan_syntax.specs.declared.operands.Supply.TheVariants as supply
-use Rattle.chan_syntax.specs.declared.nodes.Node.{Node}
-use Rattle.chan_syntax.specs.declared.nodes.Node.TheVariants as node
-use Rattle.chan_syntax.specs.declared.nodes.Func.{Func}
-use Rattle.chan_syntax.specs.declared.nodes.Parts.{Parts}
+use Rattle.core_programs.specs.declared.nodes.Node.{Node}
+use Rattle.core_programs.specs.declared.nodes.Node.TheVariants as node
+use Rattle.core_programs.specs.declared.nodes.Func.{Func}
+use Rattle.core_programs.specs.declared.nodes.Parts.{Parts}
 use Rattle.chan_syntax.specs.Reading.{term_of, bound_of, res_of}
 
 -- ---- numbers of nodes

@@ -6,12 +6,12 @@ use Rattle.std.proofs.lemmas.Bool.{eqb-true, ne_eqb, or_cases}
 use Rattle.std.proofs.lemmas.Map.Steps.{length-le_from_distinct_below}
 use Rattle.std.specs.List.{AllByRecursion, IsDistinct, list_any}
 use Rattle.core_language.specs.Programs as core
-use Rattle.chan_syntax.specs.declared.nodes.Node.{Node}
-use Rattle.chan_syntax.specs.declared.nodes.Node.TheVariants as node
-use Rattle.chan_syntax.specs.declared.nodes.Parts.{Parts}
+use Rattle.core_programs.specs.declared.nodes.Node.{Node}
+use Rattle.core_programs.specs.declared.nodes.Node.TheVariants as node
+use Rattle.core_programs.specs.declared.nodes.Parts.{Parts}
 use Rattle.chan_syntax.specs.Reading.{term_of}
-use Rattle.chan_syntax.specs.Bodies.{span_of, opened, opened_at, rest_within, rest}
-use Rattle.chan_syntax.specs.Formed.{nexts, Leads, Reaches, IsNumbered}
+use Rattle.core_programs.specs.Bodies.{span_of, opened, opened_at, rest_within, rest}
+use Rattle.core_programs.specs.Formed.{nexts, Leads, Reaches, IsNumbered}
 
 -- every walk from the number ends within the depth
 abbrev Ends : ℕ → List Node → ℕ → Type 0
