@@ -11,6 +11,3 @@ mod statements;
 
 pub use parse_fault::ParseFault;
 pub use parser::parse;
-
-#[cfg(test)]
-mod tests;
