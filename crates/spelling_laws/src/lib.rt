@@ -1,0 +1,9 @@
+//! The laws of canonical spellings.
+#![tactic(auto)]
+
+ghost use Rattle.spelling_laws.specs.Laws.{IsCutAtItsWords};
+
+/// What holds of the spelling of each program. It does nothing.
+pub fn laws()
+    ensures cut { IsCutAtItsWords }
+{}
