@@ -3,3 +3,9 @@ pub mod ApartOperands
 pub mod ApartBlocks
 pub mod ApartProgram
 pub mod Cut
+pub mod WordTokens
+pub mod Kept
+pub mod KeptTerms
+pub mod KeptResources
+pub mod KeptOperands
+pub mod KeptProofs
