@@ -74,7 +74,7 @@ unfolding parenthesized
 parenthesized_kept = kept_either (kept_map (word_kept w.RightParen) (λ x. refl) (λ x. ap behind_one unit_words)) pair_kept
 
 -- a list with a first word
-headed : (ts us : List Token) (t : Token) → ts ≡ t ∷ us → ts ≡ t ∷ behind_one ts
+pub headed : (ts us : List Token) (t : Token) → ts ≡ t ∷ us → ts ≡ t ∷ behind_one ts
 headed ts us t same = same ∙ ap (λ (x : List Token). t ∷ x) (sym (ap behind_one same))
 
 parenthesized_words : (x : Supply) → Any parenthesized x → words (s.value x) ≡ word_of w.LeftParen ∷ behind_one (words (s.value x))

@@ -9,3 +9,5 @@ pub mod KeptTerms
 pub mod KeptResources
 pub mod KeptOperands
 pub mod KeptProofs
+pub mod KeptParts
+pub mod KeptLets
