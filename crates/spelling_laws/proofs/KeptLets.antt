@@ -169,7 +169,7 @@ fork_words n r rest =
     words-append (s.let_is (name_piece n ∷ []) ++ keyword (codes "fork") ∷ space ∷ o.reference r ++ space ∷ []) rest
     ∙ ap (λ (ts : List Token). ts ++ words rest) (let_two n (keyword (codes "fork") ∷ space ∷ o.reference r) (space ∷ []) ∙ append-nil (word_of w.Let ∷ name_token n ∷ word_of w.Equals ∷ word_of w.Fork ∷ words (o.reference r)))
 
-sent_words : (x : Supply) (q : Proof) → words (s.sent x q) ≡ words (o.value x) ++ words (o.proof q)
+pub sent_words : (x : Supply) (q : Proof) → words (s.sent x q) ≡ words (o.value x) ++ words (o.proof q)
 unfolding s.sent
 sent_words x q = words-append (o.value x) (o.proof q)
 

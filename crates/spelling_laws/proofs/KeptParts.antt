@@ -117,7 +117,7 @@ task_of t =
 abbrev pub task_words : ℕ → Task → List Token
 task_words d t = words (s.task_head t.func.name t.bound t.param t.starts t.proof) ++ words (s.block d t.block)
 
-one_block_kept : (d : ℕ) → Kept (g.call ABlock (λ b. b)) e.block (λ b. words (s.block d b))
+pub one_block_kept : (d : ℕ) → Kept (g.call ABlock (λ b. b)) e.block (λ b. words (s.block d b))
 one_block_kept d = kept_call d (λ b. refl) (λ b. refl)
 
 -- four parts, of which the last is followed by a space

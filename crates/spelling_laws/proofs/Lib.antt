@@ -11,3 +11,6 @@ pub mod KeptOperands
 pub mod KeptProofs
 pub mod KeptParts
 pub mod KeptLets
+pub mod KeptBlocks
+pub mod KeptProgram
+pub mod ReadAgain
