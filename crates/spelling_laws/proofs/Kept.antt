@@ -1,6 +1,5 @@
 -- Trees that their canonical words derive again, places aside: how this passes from the parts of a grammar to the whole.
 use Rattle.std.proofs.Common.{◌≡◌, ℕ, zero, suc, ◌<◌, inl, inr, Bool, true, List, [], ◌∷◌, ◌++◌, map, refl, sym, ◌∙◌, ap, ap₂, subst, append-nil, append_assoc, codes, arith}
-use Rattle.chan_syntax.specs.declared.surface_tree.Block.{Block}
 use Rattle.text_tokens.specs.Word.{IsToken}
 use Rattle.text_tokens.specs.Text.{Piece, separator, comment, token, Token}
 use Rattle.grammar_laws.specs.Grammar as g
@@ -12,9 +11,9 @@ use Rattle.surface_spelling.specs.Erased as e
 use Rattle.surface_grammar.specs.declared.words.Word.{Word}
 use Rattle.surface_grammar.specs.declared.words.Word.TheVariants as w
 use Rattle.surface_grammar.specs.Words.{spelling, code_of, code}
-use Rattle.surface_grammar.specs.Grammar.{G, Rule, AValue, ARes, ABlock, TreeOf, word, ◌▷◌, ◌◁◌, ◌⇒◌, yes, repeated, listed, closed}
+use Rattle.surface_grammar.specs.Grammar.{G, Rule, AValue, ARes, ABlock, TreeOf, word, ◌▷◌, ◌◁◌, ◌⇒◌, repeated, listed, closed}
 use Rattle.surface_grammar.specs.Language.{body}
-use Rattle.spelling_laws.specs.Words.{bare, words, AreTokens}
+use Rattle.spelling_cuts.specs.Words.{bare, words, AreTokens}
 use Rattle.spelling_laws.proofs.WordTokens.{word_of, word_is_token, code_is_word}
 
 -- ---- lists of tokens

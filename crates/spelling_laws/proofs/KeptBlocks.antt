@@ -11,14 +11,12 @@ use Rattle.chan_syntax.specs.declared.operands.Pat.{Pat}
 use Rattle.chan_syntax.specs.declared.operands.Letter.{Letter}
 use Rattle.chan_syntax.specs.declared.operands.Proof.{Proof}
 use Rattle.chan_syntax.specs.declared.surface_tree.Start.{Start}
-use Rattle.chan_syntax.specs.declared.surface_tree.Stmt.{Stmt}
-use Rattle.chan_syntax.specs.declared.surface_tree.Last.{Last, If', Match', Branch', Loop', end_of-Last, more_of-Last}
+use Rattle.chan_syntax.specs.declared.surface_tree.Last.{If', Match', Branch', Loop', end_of-Last, more_of-Last}
 use Rattle.chan_syntax.specs.declared.surface_tree.Last.TheVariants as l
 use Rattle.chan_syntax.specs.declared.surface_tree.Last.TheBlock.{hidden-the_row-Stmt-0, hidden-the_row-Last-1}
-use Rattle.chan_syntax.specs.declared.surface_tree.Block.{Block, roll-Block}
+use Rattle.chan_syntax.specs.declared.surface_tree.Block.{Block}
 use Rattle.text_tokens.specs.Text.{Piece, Token}
-use Rattle.grammar_laws.specs.Grammar as g
-use Rattle.surface_spelling.specs.Layout.{keyword, mark, name as name_piece, space, step, line, closing, in_braces, listed as listed_pieces, in_parens}
+use Rattle.surface_spelling.specs.Layout.{keyword, mark, space, step, line, closing, in_braces, listed as listed_pieces, in_parens}
 use Rattle.surface_spelling.specs.Operands as o
 use Rattle.surface_spelling.specs.Blocks as s
 use Rattle.surface_spelling.specs.Erased as e
@@ -27,16 +25,16 @@ use Rattle.surface_grammar.specs.declared.words.Word.TheVariants as w
 use Rattle.surface_grammar.specs.declared.parts.Named.{Named}
 use Rattle.surface_grammar.specs.declared.parts.Access.{Access}
 use Rattle.surface_grammar.specs.Words.{spelling}
-use Rattle.surface_grammar.specs.Grammar.{G, ABlock, cover, word, ◌▷◌, ◌◁◌, name}
+use Rattle.surface_grammar.specs.Grammar.{cover}
 use Rattle.surface_grammar.specs.Statements.{ret_last, tail_last, at_most, two_blocks, if_last, left_pat, right_pat, left_arm, right_arm, arms, match_last, as_names, branch_last, absurd_last, loop_params, loop_last, again_last, other_last, last, stmts, block}
-use Rattle.spelling_laws.specs.Words.{words}
+use Rattle.spelling_cuts.specs.Words.{words}
 use Rattle.spelling_laws.proofs.WordTokens.{word_of}
-use Rattle.spelling_laws.proofs.Kept.{words-append, Kept, kept_seq, kept_two, kept_either, kept_many, kept_call, kept_spanned, kept_nest, kept_behind, kept_before, kept_parens}
+use Rattle.spelling_laws.proofs.Kept.{words-append, Kept, kept_seq, kept_two, kept_either, kept_many, kept_spanned, kept_nest, kept_behind, kept_before, kept_parens}
 use Rattle.spelling_laws.proofs.KeptTerms.{named, name_token, name_kept, term_kept, bound_behind_kept}
 use Rattle.spelling_laws.proofs.KeptResources.{res_kept}
 use Rattle.spelling_laws.proofs.KeptOperands.{value_kept, given_values_kept, pat_kept}
 use Rattle.spelling_laws.proofs.KeptProofs.{proof_kept}
-use Rattle.spelling_laws.proofs.KeptParts.{access_of, access_words, access_kept, called_words, call_kept, starts_kept, one_block_kept}
+use Rattle.spelling_laws.proofs.KeptParts.{access_words, access_kept, call_kept, starts_kept, one_block_kept}
 use Rattle.spelling_laws.proofs.KeptLets.{Rows, rows_erased, sent_words, stmt_kept}
 
 -- ---- layout

@@ -1,9 +1,8 @@
 -- Statements are derived by their canonical words again.
-use Rattle.std.proofs.Common.{◌≡◌, ℕ, ◌+◌, inl, inr, Bool, true, false, if◌then◌else◌, List, [], ◌∷◌, ◌++◌, map, codes, refl, sym, ◌∙◌, ap, ap₂, subst, append-nil, append_assoc}
+use Rattle.std.proofs.Common.{◌≡◌, ℕ, inl, inr, true, false, List, [], ◌∷◌, ◌++◌, map, codes, refl, ◌∙◌, ap, append-nil, append_assoc}
 use denote.Hole.Carrier.{hidden}
 use mathlib.Core.Former.{this, list_count, list_put}
 use Rattle.chan_syntax.specs.declared.identifiers.Span.{Span}
-use Rattle.chan_syntax.specs.declared.linear.Term.{Term}
 use Rattle.chan_syntax.specs.declared.linear.Bound.{Bound}
 use Rattle.chan_syntax.specs.declared.resources.Ref.{Ref}
 use Rattle.chan_syntax.specs.declared.resources.Param.{Param}
@@ -11,13 +10,12 @@ use Rattle.chan_syntax.specs.declared.operands.Supply.{Supply}
 use Rattle.chan_syntax.specs.declared.operands.Pat.{Pat}
 use Rattle.chan_syntax.specs.declared.operands.Proof.{Proof}
 use Rattle.chan_syntax.specs.declared.surface_tree.Start.{Start}
-use Rattle.chan_syntax.specs.declared.surface_tree.Stmt.{Stmt, ForkDo', Row_of-Stmt, end_of-Stmt, more_of-Stmt}
+use Rattle.chan_syntax.specs.declared.surface_tree.Stmt.{Stmt, ForkDo', Row_of-Stmt, more_of-Stmt}
 use Rattle.chan_syntax.specs.declared.surface_tree.Stmt.TheVariants as v
-use Rattle.chan_syntax.specs.declared.surface_tree.Last.{Last, Row_of-Last, end_of-Last, more_of-Last}
-use Rattle.chan_syntax.specs.declared.surface_tree.Last.TheBlock.{hidden-the_row-Stmt-0, hidden-the_row-Last-1, back-the_row-Stmt, back-the_row-Last}
+use Rattle.chan_syntax.specs.declared.surface_tree.Last.{end_of-Last, more_of-Last}
+use Rattle.chan_syntax.specs.declared.surface_tree.Last.TheBlock.{hidden-the_row-Stmt-0, hidden-the_row-Last-1, back-the_row-Stmt}
 use Rattle.chan_syntax.specs.declared.surface_tree.Block.{Block}
 use Rattle.text_tokens.specs.Text.{Piece, Token}
-use Rattle.grammar_laws.specs.Grammar as g
 use Rattle.surface_spelling.specs.Layout.{keyword, mark, name as name_piece, number as number_piece, space, pair}
 use Rattle.surface_spelling.specs.Operands as o
 use Rattle.surface_spelling.specs.Blocks as s
@@ -27,8 +25,6 @@ use Rattle.surface_grammar.specs.declared.words.Word.TheVariants as w
 use Rattle.surface_grammar.specs.declared.parts.Named.{Named}
 use Rattle.surface_grammar.specs.declared.parts.Names.{Names}
 use Rattle.surface_grammar.specs.declared.parts.Route.{Route}
-use Rattle.surface_grammar.specs.declared.parts.Access.{Access}
-use Rattle.surface_grammar.specs.declared.parts.Forked.{Forked}
 use Rattle.surface_grammar.specs.declared.parts.Forked.TheVariants as f
 use Rattle.surface_grammar.specs.declared.parts.Given.{Given}
 use Rattle.surface_grammar.specs.declared.parts.Given.TheVariants as given_
@@ -38,16 +34,16 @@ use Rattle.surface_grammar.specs.declared.parts.PairGiven.TheVariants as p
 use Rattle.surface_grammar.specs.declared.parts.Binding.{Binding}
 use Rattle.surface_grammar.specs.declared.parts.Binding.TheVariants as b
 use Rattle.surface_grammar.specs.Words.{spelling}
-use Rattle.surface_grammar.specs.Grammar.{G, cover, word, ◌▷◌, ◌◁◌, ◌⇒◌, name}
-use Rattle.surface_grammar.specs.Operands.{bracketed, no_names, pat_of, pat}
-use Rattle.surface_grammar.specs.Statements.{access, given, given_to_pattern, behind_name, let_fork, let_given, two_pats, given_to_pair, behind_pats, let_pair, binding, let_of, let_stmt, send1_stmt, close_stmt, wait_stmt, print_stmt, stmt}
-use Rattle.spelling_laws.specs.Words.{words}
+use Rattle.surface_grammar.specs.Grammar.{cover, word, ◌▷◌}
+use Rattle.surface_grammar.specs.Operands.{no_names, pat_of}
+use Rattle.surface_grammar.specs.Statements.{given, given_to_pattern, behind_name, let_given, two_pats, given_to_pair, behind_pats, let_pair, binding, let_of, let_stmt, send1_stmt, close_stmt, wait_stmt, print_stmt, stmt}
+use Rattle.spelling_cuts.specs.Words.{words}
 use Rattle.spelling_laws.proofs.WordTokens.{word_of}
-use Rattle.spelling_laws.proofs.Kept.{words-append, behind_one, Kept, Any, any_seq, kept_seq, kept_seq_when, kept_two, kept_either, kept_spanned, kept_map, kept_behind_when, kept_behind, kept_behind_map, kept_pair}
+use Rattle.spelling_laws.proofs.Kept.{words-append, behind_one, Kept, Any, kept_seq, kept_seq_when, kept_two, kept_either, kept_spanned, kept_map, kept_behind_when, kept_behind, kept_behind_map, kept_pair}
 use Rattle.spelling_laws.proofs.KeptTerms.{named, names_of, name_token, name_kept, term_kept}
-use Rattle.spelling_laws.proofs.KeptOperands.{value_kept, pat_kept, bracketed_kept, bracketed_words, bracketed_behind_kept, route_kept, headed}
+use Rattle.spelling_laws.proofs.KeptOperands.{value_kept, pat_kept, bracketed_behind_kept, route_kept, headed}
 use Rattle.spelling_laws.proofs.KeptProofs.{proof_kept}
-use Rattle.spelling_laws.proofs.KeptParts.{access_of, access_words, access_kept, target_words, called_words, task_words, forked_words, forked_of, given_of, given_words, given_kept, given_to_pattern_kept}
+use Rattle.spelling_laws.proofs.KeptParts.{access_of, access_words, access_kept, target_words, given_of, given_words, given_kept, given_to_pattern_kept}
 
 -- ---- what follows the patterns
 

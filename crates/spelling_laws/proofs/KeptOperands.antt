@@ -1,40 +1,34 @@
 -- Values, patterns, paths and proofs are derived by their canonical words again.
-use Rattle.std.proofs.Common.{◌≡◌, ℕ, ◌==◌, inl, inr, Bool, true, false, ◌||◌, if◌then◌else◌, List, [], ◌∷◌, ◌++◌, map, codes, Option, Some, None, refl, sym, ◌∙◌, ap, ap₂, subst, append-nil, append_assoc}
+use Rattle.std.proofs.Common.{◌≡◌, ℕ, ◌==◌, inl, inr, Bool, true, false, if◌then◌else◌, List, [], ◌∷◌, ◌++◌, map, Option, Some, refl, sym, ◌∙◌, ap, ap₂, subst, append_assoc}
 use Rattle.std.specs.List.{list_all}
 use Rattle.std.proofs.lemmas.Bool.{and_parts, or_cases, eqb-true}
 use denote.Hole.Carrier.{hidden}
 use Rattle.chan_syntax.specs.declared.operands.Supply.TheBlock.{hidden-the_row-Supply-0}
 use Rattle.chan_syntax.specs.declared.identifiers.Span.{Span}
-use Rattle.chan_syntax.specs.declared.linear.Term.{Term}
 use Rattle.chan_syntax.specs.declared.operands.Supply.{Supply}
 use Rattle.chan_syntax.specs.declared.operands.Supply.TheVariants as v
 use Rattle.chan_syntax.specs.declared.operands.Letter.{Letter}
 use Rattle.chan_syntax.specs.declared.operands.Letter.TheVariants as letter
-use Rattle.chan_syntax.specs.declared.operands.WrittenMention.{WrittenMention}
-use Rattle.chan_syntax.specs.declared.operands.WrittenCert.{WrittenCert}
-use Rattle.chan_syntax.specs.declared.operands.Proof.{Proof}
-use Rattle.text_tokens.specs.declared.TokenKind.TheVariants.{Name}
 use Rattle.text_tokens.specs.Word.{HasForm, IsToken}
 use Rattle.text_tokens.specs.Text.{Piece, Token}
 use Rattle.text_tokens.proofs.Forms.{no_form-nil}
 use Rattle.grammar_laws.specs.Grammar as g
-use Rattle.surface_spelling.specs.Layout.{keyword, mark, name as name_piece, number as number_piece, space, listed as listed_pieces, behind_commas, in_parens, in_brackets, pair as pair_pieces}
+use Rattle.surface_spelling.specs.Layout.{listed as listed_pieces, in_brackets}
 use Rattle.surface_spelling.specs.Operands as s
 use Rattle.surface_spelling.specs.Operands.{a_name, letter_byte}
 use Rattle.surface_spelling.specs.Erased as e
 use Rattle.surface_spelling.proofs.Spelled.{value_unit, value_pair, value_left, value_right, value_sum}
 use Rattle.surface_grammar.specs.declared.words.Word.TheVariants as w
-use Rattle.surface_grammar.specs.declared.parts.Named.{Named}
 use Rattle.surface_grammar.specs.declared.parts.Names.{Names}
 use Rattle.surface_grammar.specs.declared.parts.Digits.{Digits}
 use Rattle.surface_grammar.specs.declared.parts.Route.{Route}
-use Rattle.surface_grammar.specs.Words.{spelling, code, name_code}
-use Rattle.surface_grammar.specs.Grammar.{G, AValue, cover, word, ◌▷◌, ◌◁◌, ◌⇒◌, is_letter, letter_of, number, name, names, letters}
-use Rattle.surface_grammar.specs.Operands.{pair, parenthesized, value, values, given_values, bracketed, no_names, names_if_any, pat_of, pat, no_route, route, mention_of, ratio, minus_mention, plain_mention, mention, mentions, more_mentions, mentions_to_brace}
-use Rattle.spelling_laws.specs.Words.{bare, words, AreTokens}
+use Rattle.surface_grammar.specs.Words.{spelling, name_code}
+use Rattle.surface_grammar.specs.Grammar.{AValue, cover, word, ◌◁◌, is_letter, letter_of, names, letters}
+use Rattle.surface_grammar.specs.Operands.{pair, parenthesized, value, values, given_values, bracketed, names_if_any, pat, route, ratio, minus_mention, plain_mention, mention, mentions, mentions_to_brace}
+use Rattle.spelling_cuts.specs.Words.{words, AreTokens}
 use Rattle.spelling_laws.proofs.WordTokens.{word_of, is_name}
-use Rattle.spelling_laws.proofs.Kept.{words-append, behind_one, Again, Levels, Has, Kept, Any, any_seq, any_nest, one_again, word_kept, kept_when, kept_pure, kept_seq, kept_two, kept_either, kept_call, kept_spanned, kept_nest, kept_nest_when, kept_map, kept_behind_when, kept_behind, kept_before, kept_commas, kept_listed, kept_closed, kept_parens, parens_words, brackets_words, pair_words}
-use Rattle.spelling_laws.proofs.KeptTerms.{named, names_of, digits, name_token, number_token, name_at, name_kept, number_kept, names_kept, some_names, term_kept}
+use Rattle.spelling_laws.proofs.Kept.{behind_one, Kept, Any, any_seq, any_nest, one_again, word_kept, kept_when, kept_pure, kept_seq, kept_either, kept_call, kept_spanned, kept_nest, kept_nest_when, kept_map, kept_behind_when, kept_behind, kept_before, kept_listed, kept_closed, kept_parens, parens_words, brackets_words, pair_words}
+use Rattle.spelling_laws.proofs.KeptTerms.{names_of, digits, name_token, number_token, name_at, name_kept, number_kept, names_kept, some_names, term_kept}
 
 -- ---- values
 

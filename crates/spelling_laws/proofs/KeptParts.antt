@@ -1,16 +1,11 @@
 -- What several statements have is derived by its canonical words again.
-use Rattle.std.proofs.Common.{◌≡◌, ℕ, ◌+◌, ◌⊎◌, inl, inr, Option, Some, List, [], ◌∷◌, ◌++◌, map, codes, refl, sym, ◌∙◌, ap, ap₂, subst, append-nil, append_assoc}
-use Rattle.chan_syntax.specs.declared.identifiers.Span.{Span}
+use Rattle.std.proofs.Common.{◌≡◌, ℕ, ◌⊎◌, inl, inr, Some, List, [], ◌∷◌, ◌++◌, map, codes, refl, sym, ◌∙◌, ap, subst, append-nil, append_assoc}
 use Rattle.chan_syntax.specs.declared.linear.Part.{Part}
 use Rattle.chan_syntax.specs.declared.linear.Term.{Term}
-use Rattle.chan_syntax.specs.declared.linear.Bound.{Bound}
-use Rattle.chan_syntax.specs.declared.resources.Ref.{Ref}
 use Rattle.chan_syntax.specs.declared.resources.Param.{Param}
-use Rattle.chan_syntax.specs.declared.resources.Shape.{Shape}
 use Rattle.chan_syntax.specs.declared.operands.Supply.{Supply}
 use Rattle.chan_syntax.specs.declared.operands.Proof.{Proof}
 use Rattle.chan_syntax.specs.declared.surface_tree.Start.{Start}
-use Rattle.chan_syntax.specs.declared.surface_tree.Block.{Block}
 use Rattle.text_tokens.specs.Text.{Piece, Token}
 use Rattle.grammar_laws.specs.Grammar as g
 use Rattle.surface_spelling.specs.Layout.{mark, number as number_piece, space, behind_commas, listed as listed_pieces, in_parens, pair}
@@ -19,7 +14,6 @@ use Rattle.surface_spelling.specs.Blocks as s
 use Rattle.surface_spelling.specs.Erased as e
 use Rattle.surface_grammar.specs.declared.words.Word.TheVariants as w
 use Rattle.surface_grammar.specs.declared.parts.Named.{Named}
-use Rattle.surface_grammar.specs.declared.parts.Digits.{Digits}
 use Rattle.surface_grammar.specs.declared.parts.Access.{Access}
 use Rattle.surface_grammar.specs.declared.parts.Target.{Target}
 use Rattle.surface_grammar.specs.declared.parts.Called.{Called}
@@ -31,14 +25,13 @@ use Rattle.surface_grammar.specs.declared.parts.Tail.TheVariants as t
 use Rattle.surface_grammar.specs.declared.parts.Given.{Given}
 use Rattle.surface_grammar.specs.declared.parts.Given.TheVariants as v
 use Rattle.surface_grammar.specs.Words.{spelling}
-use Rattle.surface_grammar.specs.Grammar.{G, ABlock, cover, word, ◌▷◌, ◌◁◌, ◌⇒◌, name}
-use Rattle.surface_grammar.specs.Terms.{part_of, number_prod, prod, minus_prod, first_part, more_parts, term, number_part, number_term, bound}
-use Rattle.surface_grammar.specs.Operands.{value, given_values, proof}
+use Rattle.surface_grammar.specs.Grammar.{ABlock, cover, name}
+use Rattle.surface_grammar.specs.Terms.{part_of, prod, first_part, more_parts, term, number_part, number_term}
 use Rattle.surface_grammar.specs.Statements.{access, target, call, start, more_starts, starts, task_params, task, forked, tail, named_given, given_name, given_term, given_target, given_end, given, given_to_pattern}
-use Rattle.spelling_laws.specs.Words.{bare, words, AreTokens}
+use Rattle.spelling_cuts.specs.Words.{words, AreTokens}
 use Rattle.spelling_laws.proofs.WordTokens.{word_of}
-use Rattle.spelling_laws.proofs.Kept.{words-append, Again, Levels, Has, Kept, word_kept, kept_as, kept_seq, kept_two, kept_either, kept_call, kept_nest, kept_map, kept_behind, kept_before, kept_behind_seq, kept_behind_map, kept_commas, kept_listed, parens_words}
-use Rattle.spelling_laws.proofs.KeptTerms.{named, digits, name_token, name_kept, term_kept, more_parts_kept, two_terms_kept, term_and_number_kept, bound_behind_kept, reference_kept}
+use Rattle.spelling_laws.proofs.Kept.{words-append, Again, Levels, Has, Kept, kept_seq, kept_two, kept_either, kept_call, kept_nest, kept_map, kept_behind, kept_before, kept_behind_seq, kept_behind_map, kept_commas, kept_listed, parens_words}
+use Rattle.spelling_laws.proofs.KeptTerms.{named, digits, name_token, name_kept, term_kept, two_terms_kept, term_and_number_kept, bound_behind_kept, reference_kept}
 use Rattle.spelling_laws.proofs.KeptResources.{shape_kept, param_kept}
 use Rattle.spelling_laws.proofs.KeptOperands.{route_of, route_kept, value_kept, given_values_kept}
 use Rattle.spelling_laws.proofs.KeptProofs.{proof_kept}
@@ -186,8 +179,11 @@ module _ (l : Levels) where
       inl (record { func = n; values = d.0; proof = d.1 }, is ∙ ap (λ (x : Tail). named_given n x (cover ts)) d.4, (n, (d.0, d.1), u, v, refl, split, first, (d.0, d.1, d.2, d.3, refl, d.5, d.6, d.7)))
   by_tail y n x ts u v is split first (inr d) =
       let short = no_more v d.2 d.3 d.5 d.7.1 in
-      inr (record { parts = part_of 1 (Some n) ∷ d.0; span = cover ts }, is ∙ ap (λ (x : Tail). named_given n x (cover ts)) d.4,
-        (part_of 1 (Some n) ∷ d.0, refl, (part_of 1 (Some n), d.0, u, d.2, refl, split ∙ ap (λ (v : List Token). u ++ v) short, named_first n u first, d.6)))
+      inr (
+        record { parts = part_of 1 (Some n) ∷ d.0; span = cover ts },
+        is ∙ ap (λ (x : Tail). named_given n x (cover ts)) d.4,
+        (part_of 1 (Some n) ∷ d.0, refl, (part_of 1 (Some n), d.0, u, d.2, refl, split ∙ ap (λ (v : List Token). u ++ v) short, named_first n u first, d.6)),
+      )
 
   number_first : (p : Part) (u : List Token) → Has l number_part p u → Has l first_part p u
   unfolding number_part first_part prod
@@ -210,8 +206,11 @@ module _ (l : Levels) where
   unfolding given_term given_name tail call
   of_call c us d =
       let q = d.7 in
-      inl ((d.0, t.Values q.0 q.1), ap v.Call (d.4 ∙ ap (λ (p : List Supply × Proof). record { func = d.0; values = p.0; proof = p.1 }) q.4),
-        (d.0, t.Values q.0 q.1, d.2, d.3, refl, d.5, d.6, inl (q.0, q.1, q.2, q.3, refl, q.5, q.6, q.7)))
+      inl (
+        (d.0, t.Values q.0 q.1),
+        ap v.Call (d.4 ∙ ap (λ (p : List Supply × Proof). record { func = d.0; values = p.0; proof = p.1 }) q.4),
+        (d.0, t.Values q.0 q.1, d.2, d.3, refl, d.5, d.6, inl (q.0, q.1, q.2, q.3, refl, q.5, q.6, q.7)),
+      )
 
   by_part : (x : Term) (p : Part) (more : List Part) (us u k : List Token) → x ≡ record { parts = p ∷ more; span = cover us } → us ≡ u ++ k → Has l first_part p u → Has l more_parts more k
       → Has l given_term (v.Term x) us
@@ -222,8 +221,11 @@ module _ (l : Levels) where
       inr (x, tt, us, [], refl, sym (append-nil us), (p ∷ more, is, (p, more, u, k, refl, split, inr d, rest)), (refl, refl))
   by_part x p more us u k is split (inr (inr d)) rest =
       let short = no_more u d.2 d.3 d.5 d.7.1 in
-      inl ((d.0, t.Parts more), ap v.Term (is ∙ ap (λ (p : Part). record { parts = p ∷ more; span = cover us }) d.4),
-        (d.0, t.Parts more, d.2, k, refl, split ∙ ap (λ (u : List Token). u ++ k) short, d.6, inr (more, tt, k, [], refl, sym (append-nil k), rest, (refl, refl))))
+      inl (
+        (d.0, t.Parts more),
+        ap v.Term (is ∙ ap (λ (p : Part). record { parts = p ∷ more; span = cover us }) d.4),
+        (d.0, t.Parts more, d.2, k, refl, split ∙ ap (λ (u : List Token). u ++ k) short, d.6, inr (more, tt, k, [], refl, sym (append-nil k), rest, (refl, refl))),
+      )
 
   of_term : (x : Term) (us : List Token) → Has l term x us → Has l given_term (v.Term x) us
   unfolding term

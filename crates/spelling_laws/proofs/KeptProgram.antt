@@ -1,24 +1,17 @@
 -- Programs are derived by their canonical words again.
-use Rattle.std.proofs.Common.{◌≡◌, ℕ, Bool, true, false, List, [], ◌∷◌, ◌++◌, map, codes, Option, Some, None, option_map, refl, sym, ◌∙◌, ap, ap₂, append-nil, append_assoc}
-use Rattle.chan_syntax.specs.declared.identifiers.Span.{Span}
+use Rattle.std.proofs.Common.{◌≡◌, List, [], ◌∷◌, ◌++◌, map, codes, option_map, refl, ◌∙◌, ap, append-nil, append_assoc}
 use Rattle.chan_syntax.specs.declared.linear.Term.{Term}
 use Rattle.chan_syntax.specs.declared.linear.Bound.{Bound}
 use Rattle.chan_syntax.specs.declared.resources.Ref.{Ref}
 use Rattle.chan_syntax.specs.declared.resources.Res.{Res}
 use Rattle.chan_syntax.specs.declared.resources.Param.{Param}
-use Rattle.chan_syntax.specs.declared.resources.Equation.{Equation}
 use Rattle.chan_syntax.specs.declared.resources.Equation.TheVariants as q
 use Rattle.chan_syntax.specs.declared.surface_tree.Block.{Block}
 use Rattle.chan_syntax.specs.declared.surface_tree.Body.{Body}
-use Rattle.chan_syntax.specs.declared.surface_tree.Body.TheVariants as b
 use Rattle.chan_syntax.specs.declared.surface_tree.SurfaceProto.{SurfaceProto}
 use Rattle.chan_syntax.specs.declared.surface_tree.SurfaceFunc.{SurfaceFunc}
-use Rattle.chan_syntax.specs.declared.surface_tree.Decl.{Decl}
-use Rattle.chan_syntax.specs.declared.surface_tree.Decl.TheVariants as d
-use Rattle.chan_syntax.specs.declared.surface_tree.Surface.{Surface}
 use Rattle.text_tokens.specs.Text.{Piece, Token}
-use Rattle.grammar_laws.specs.Grammar as g
-use Rattle.surface_spelling.specs.Layout.{keyword, mark, name as name_piece, space, line, listed as listed_pieces, in_parens}
+use Rattle.surface_spelling.specs.Layout.{keyword, mark, space, line, listed as listed_pieces, in_parens}
 use Rattle.surface_spelling.specs.Operands as o
 use Rattle.surface_spelling.specs.Operands.{a_name}
 use Rattle.surface_spelling.specs.Blocks as s
@@ -28,10 +21,9 @@ use Rattle.surface_grammar.specs.declared.words.Word.TheVariants as w
 use Rattle.surface_grammar.specs.declared.parts.Named.{Named}
 use Rattle.surface_grammar.specs.declared.parts.Names.{Names}
 use Rattle.surface_grammar.specs.Words.{spelling}
-use Rattle.surface_grammar.specs.Grammar.{G, cover, word, ◌▷◌, ◌◁◌, ◌⇒◌, name, names}
-use Rattle.surface_grammar.specs.Operands.{no_names}
-use Rattle.surface_grammar.specs.Declarations.{then_ref, two_refs, branch, equation, alternatives, choice, choice_of, pbody, names_to_paren, proto_params, proto, params, func_params, func, decl, decls, program}
-use Rattle.spelling_laws.specs.Words.{words}
+use Rattle.surface_grammar.specs.Grammar.{cover}
+use Rattle.surface_grammar.specs.Declarations.{then_ref, two_refs, branch, equation, alternatives, choice, pbody, names_to_paren, proto_params, proto, params, func_params, func, decl, decls, program}
+use Rattle.spelling_cuts.specs.Words.{words}
 use Rattle.spelling_laws.proofs.WordTokens.{word_of}
 use Rattle.spelling_laws.proofs.Kept.{words-append, Kept, word_kept, kept_pure, kept_seq, kept_two, kept_either, kept_many, kept_spanned, kept_nest, kept_map, kept_behind, kept_before, kept_behind_seq, kept_behind_map, kept_listed, kept_parens, parens_words}
 use Rattle.spelling_laws.proofs.KeptTerms.{named, names_of, name_token, name_kept, names_kept, bound_behind_kept, reference_kept}

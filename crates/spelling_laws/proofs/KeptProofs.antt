@@ -2,13 +2,10 @@
 use Rattle.std.proofs.Common.{◌≡◌, ℕ, ◌==◌, inl, inr, Bool, true, false, if◌then◌else◌, List, [], ◌∷◌, ◌++◌, map, codes, Option, Some, None, refl, sym, ◌∙◌, ap, ap₂, subst, append-nil, append_assoc}
 use Rattle.std.proofs.lemmas.Bool.{eqb-true, both_ways}
 use Rattle.chan_syntax.specs.declared.identifiers.Span.{Span}
-use Rattle.chan_syntax.specs.declared.linear.Term.{Term}
 use Rattle.chan_syntax.specs.declared.operands.WrittenMention.{WrittenMention}
 use Rattle.chan_syntax.specs.declared.operands.WrittenCert.{WrittenCert}
-use Rattle.chan_syntax.specs.declared.operands.Proof.{Proof}
 use Rattle.text_tokens.specs.Text.{Piece, Token}
-use Rattle.grammar_laws.specs.Grammar as g
-use Rattle.surface_spelling.specs.Layout.{keyword, mark, number as number_piece, space, listed as listed_pieces, in_brackets}
+use Rattle.surface_spelling.specs.Layout.{mark, number as number_piece, listed as listed_pieces, in_brackets}
 use Rattle.surface_spelling.specs.Operands as s
 use Rattle.surface_spelling.specs.Erased as e
 use Rattle.surface_spelling.proofs.Places.{listed_same}
@@ -18,13 +15,12 @@ use Rattle.surface_grammar.specs.declared.parts.CertParts.{CertParts}
 use Rattle.surface_grammar.specs.declared.parts.BehindNumber.{BehindNumber}
 use Rattle.surface_grammar.specs.declared.parts.BehindNumber.TheVariants as b
 use Rattle.surface_grammar.specs.Words.{spelling, code, code_of}
-use Rattle.surface_grammar.specs.Grammar.{G, cover, word, ◌▷◌, ◌◁◌, ◌⇒◌, number}
-use Rattle.surface_grammar.specs.Operands.{mention_of, span_to, ratio, minus_mention, plain_mention, mention, mentions, more_mentions, mentions_to_brace, behind_number, numbered, minus_mentions, cert_parts, cert_with, cert, certs, bracketed_terms, bracketed_certs, instances, certificates, proof}
-use Rattle.surface_grammar.specs.Terms.{terms}
-use Rattle.spelling_laws.specs.Words.{bare, words, AreTokens}
+use Rattle.surface_grammar.specs.Grammar.{cover, word, ◌▷◌, number}
+use Rattle.surface_grammar.specs.Operands.{mention_of, ratio, minus_mention, plain_mention, mention, mentions, more_mentions, mentions_to_brace, behind_number, numbered, minus_mentions, cert_parts, cert_with, cert, certs, bracketed_terms, bracketed_certs, instances, certificates, proof}
+use Rattle.spelling_cuts.specs.Words.{words, AreTokens}
 use Rattle.spelling_laws.proofs.WordTokens.{word_of, word_is_token, code_is_word}
-use Rattle.spelling_laws.proofs.Kept.{words-append, tokens_front, tokens_back, tokens_both, split_first, none_of, Again, Levels, Has, Kept, kept_as, kept_seq, kept_spanned_by, kept_nest, kept_listed, kept_brackets, kept_optional}
-use Rattle.spelling_laws.proofs.KeptTerms.{digits, number_token, number_kept, terms_kept}
+use Rattle.spelling_laws.proofs.Kept.{words-append, tokens_front, tokens_back, split_first, Again, Levels, Has, Kept, kept_seq, kept_spanned_by, kept_nest, kept_listed, kept_brackets, kept_optional}
+use Rattle.spelling_laws.proofs.KeptTerms.{number_token, number_kept, terms_kept}
 use Rattle.spelling_laws.proofs.KeptOperands.{mentions_to_brace_kept}
 
 -- ---- what follows the brace

@@ -1,10 +1,9 @@
 -- Shapes and resources are derived by their canonical words again.
-use Rattle.std.proofs.Common.{◌≡◌, ℕ, List, [], ◌∷◌, ◌++◌, refl, ap}
+use Rattle.std.proofs.Common.{◌≡◌, refl, ap}
 use denote.Hole.Carrier.{hidden}
 use Rattle.chan_syntax.specs.declared.resources.Shape.TheBlock.{hidden-the_row-Res-0}
 use Rattle.chan_syntax.specs.declared.resources.Shape.TheVariants as v
 use Rattle.chan_syntax.specs.declared.resources.Res.{Res}
-use Rattle.text_tokens.specs.Text.{Token}
 use Rattle.grammar_laws.specs.Grammar as g
 use Rattle.surface_spelling.specs.Layout.{pair}
 use Rattle.surface_spelling.specs.Operands as s
@@ -12,9 +11,9 @@ use Rattle.surface_spelling.specs.Erased as e
 use Rattle.surface_spelling.proofs.Spelled.{shape_unit, shape_int, shape_end, shape_pair, shape_sum}
 use Rattle.surface_grammar.specs.declared.words.Word.TheVariants as w
 use Rattle.surface_grammar.specs.Words.{spelling}
-use Rattle.surface_grammar.specs.Grammar.{G, ARes}
+use Rattle.surface_grammar.specs.Grammar.{ARes}
 use Rattle.surface_grammar.specs.Terms.{two_res, shape, res, param}
-use Rattle.spelling_laws.specs.Words.{words}
+use Rattle.spelling_cuts.specs.Words.{words}
 use Rattle.spelling_laws.proofs.Kept.{words-append, Kept, word_kept, kept_seq, kept_either, kept_call, kept_map, kept_behind, kept_behind_map, kept_pair}
 use Rattle.spelling_laws.proofs.KeptTerms.{name_kept, one_term_kept, bound_before_kept, reference_kept}
 

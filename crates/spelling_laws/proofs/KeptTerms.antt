@@ -1,22 +1,20 @@
 -- Terms, resources and what they are made of are derived by their canonical words again.
-use Rattle.std.proofs.Common.{◌≡◌, ℕ, ◌≤◌, ◌==◌, nat_le, inl, inr, Bool, true, false, if◌then◌else◌, ℤ, pos, List, [], ◌∷◌, ◌++◌, map, codes, decimal, Option, Some, None, option_map, refl, sym, ◌∙◌, ap, ap₂, subst, append-nil, append_assoc, arith}
+use Rattle.std.proofs.Common.{◌≡◌, ℕ, ◌≤◌, nat_le, inl, inr, Bool, true, false, if◌then◌else◌, pos, List, [], ◌∷◌, ◌++◌, map, codes, decimal, Option, Some, None, option_map, refl, sym, ◌∙◌, ap, subst, append-nil, append_assoc, arith}
 use Rattle.std.proofs.lemmas.Grind.{common_steps}
 use Rattle.std.specs.Ordering.{int_eq}
 use Rattle.std.proofs.lemmas.Bool.Decides.{Decides-int_eq}
-use Rattle.chan_syntax.specs.declared.identifiers.Span.{Span}
 use Rattle.chan_syntax.specs.declared.linear.Part.{Part}
 use Rattle.chan_syntax.specs.declared.linear.Term.{Term}
 use Rattle.chan_syntax.specs.declared.linear.Relation.{Relation}
 use Rattle.chan_syntax.specs.declared.linear.Relation.TheVariants as r
 use Rattle.chan_syntax.specs.declared.linear.Limit.{Limit}
 use Rattle.chan_syntax.specs.declared.linear.Bound.{Bound}
-use Rattle.chan_syntax.specs.declared.resources.Ref.{Ref}
 use Rattle.text_tokens.specs.declared.TokenKind.TheVariants.{Name, Number}
 use Rattle.text_tokens.specs.Word.{IsToken}
 use Rattle.text_tokens.specs.Word.{limit as largest}
 use Rattle.text_tokens.specs.Text.{Piece, Token}
 use Rattle.grammar_laws.specs.Grammar as g
-use Rattle.surface_spelling.specs.Layout.{keyword, mark, name as name_piece, number as number_piece, space, listed as listed_pieces, behind_commas, in_parens, in_brackets, pair}
+use Rattle.surface_spelling.specs.Layout.{mark, name as name_piece, number as number_piece, space, listed as listed_pieces, behind_commas, in_parens, pair}
 use Rattle.surface_spelling.specs.Operands as s
 use Rattle.surface_spelling.specs.Operands.{a_name, relation_mark}
 use Rattle.surface_spelling.specs.Erased as e
@@ -24,12 +22,12 @@ use Rattle.surface_grammar.specs.declared.words.Word.TheVariants as w
 use Rattle.surface_grammar.specs.declared.parts.Named.{Named}
 use Rattle.surface_grammar.specs.declared.parts.Names.{Names}
 use Rattle.surface_grammar.specs.declared.parts.Digits.{Digits}
-use Rattle.surface_grammar.specs.Words.{spelling, code, code_by, name_code, number_code}
-use Rattle.surface_grammar.specs.Grammar.{G, cover, word, ◌▷◌, ◌◁◌, ◌⇒◌, opened, closed, number_of, name, number, names, parted}
-use Rattle.surface_grammar.specs.Terms.{part_of, with_sign, times, number_prod, prod, minus_prod, first_part, next_part, more_parts, term, terms, one_term, two_terms, term_and_number, relation, limit, limits, limits_to_bracket, binds, no_bound, bound, dual, args, reference}
-use Rattle.spelling_laws.specs.Words.{bare, words, AreTokens}
+use Rattle.surface_grammar.specs.Words.{spelling, code, name_code, number_code}
+use Rattle.surface_grammar.specs.Grammar.{cover, word, ◌◁◌, ◌⇒◌, number_of, name, number, names, parted}
+use Rattle.surface_grammar.specs.Terms.{part_of, times, number_prod, prod, minus_prod, first_part, next_part, more_parts, term, terms, one_term, two_terms, term_and_number, relation, limit, limits, limits_to_bracket, binds, bound, dual, args, reference}
+use Rattle.spelling_cuts.specs.Words.{bare, words, AreTokens}
 use Rattle.spelling_laws.proofs.WordTokens.{word_of, code_at, is_name, decimal_is_token}
-use Rattle.spelling_laws.proofs.Kept.{words-append, split_first, none_of, Again, Levels, Has, Kept, Any, one_again, word_kept, kept_when, kept_as, kept_pure, kept_seq, kept_seq_when, kept_two, kept_either, kept_many, kept_call, kept_spanned, kept_nest, kept_nest_when, kept_map, kept_behind_when, kept_behind, kept_before, kept_behind_seq, kept_behind_map, kept_commas, kept_listed, kept_closed, any_seq, any_nest, parens_words, brackets_words, kept_pair, kept_parens}
+use Rattle.spelling_laws.proofs.Kept.{words-append, Again, Levels, Has, Kept, Any, one_again, word_kept, kept_when, kept_pure, kept_seq, kept_two, kept_either, kept_many, kept_spanned, kept_nest, kept_map, kept_behind_when, kept_before, kept_behind_map, kept_listed, any_seq, any_nest, parens_words, brackets_words, kept_pair, kept_parens}
 
 -- ---- names and numbers
 

@@ -1,8 +1,3 @@
-pub mod Apart
-pub mod ApartOperands
-pub mod ApartBlocks
-pub mod ApartProgram
-pub mod Cut
 pub mod WordTokens
 pub mod Kept
 pub mod KeptTerms

@@ -2,19 +2,18 @@
 use Rattle.std.proofs.Common.{◌≡◌, ℕ, zero, suc, ◌<◌, List, [], ◌∷◌, ◌++◌, map, refl, ap, arith}
 use Rattle.std.specs.List.{All}
 use Rattle.std.proofs.lemmas.List.Elements.{All-head, All-tail}
-use Rattle.chan_syntax.specs.declared.surface_tree.Surface.{Surface}
-use Rattle.text_tokens.specs.Text.{Piece, separator, comment, token, Token, StandsIn, HasTokens, tokens_behind}
+use Rattle.text_tokens.specs.Text.{Piece, separator, comment, token, Token, StandsIn, tokens_behind}
 use Rattle.text_tokens.proofs.Each.{each_stands}
 use Rattle.grammar_laws.specs.Grammar.{Named}
 use Rattle.surface_spelling.specs.Layout.{bytes}
 use Rattle.surface_spelling.specs.Spelling.{program, spelling}
-use Rattle.surface_spelling.specs.Erased.{nowhere, erase}
+use Rattle.surface_spelling.specs.Erased.{nowhere}
 use Rattle.surface_grammar.specs.Words.{code}
-use Rattle.surface_grammar.specs.Grammar.{Rule, AValue, ARes, ABlock}
-use Rattle.surface_grammar.specs.Language.{body, max_levels, Derives}
-use Rattle.spelling_laws.specs.Words.{bare, words, AreTokens}
+use Rattle.surface_grammar.specs.Grammar.{AValue, ARes, ABlock}
+use Rattle.surface_grammar.specs.Language.{body, max_levels}
+use Rattle.spelling_cuts.specs.Words.{bare, words, AreTokens}
 use Rattle.spelling_laws.specs.Laws.{IsReadAgain}
-use Rattle.spelling_laws.proofs.Cut.{words_are_cut}
+use Rattle.spelling_cuts.proofs.Cut.{words_are_cut}
 use Rattle.spelling_laws.proofs.Kept.{KeepsNames, Levels}
 use Rattle.spelling_laws.proofs.KeptResources.{res_kept}
 use Rattle.spelling_laws.proofs.KeptOperands.{value_kept}

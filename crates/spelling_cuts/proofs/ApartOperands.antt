@@ -1,6 +1,5 @@
 -- The words of terms, resources, values and proofs stand apart.
-use Rattle.std.proofs.Common.{◌≡◌, ℕ, ◌==◌, true, false, ℤ, pos, negsuc, suc, Bool, if◌then◌else◌, List, [], ◌∷◌, ◌++◌, codes, map, Option, Some, None, refl}
-use Rattle.std.specs.Ordering.{int_eq}
+use Rattle.std.proofs.Common.{ℕ, true, false, ℤ, pos, negsuc, Bool, if◌then◌else◌, List, [], ◌∷◌, codes, Option, Some, None, refl}
 use Rattle.chan_syntax.specs.declared.linear.Part.{Part}
 use Rattle.chan_syntax.specs.declared.linear.Term.{Term}
 use Rattle.chan_syntax.specs.declared.linear.Relation.{Relation}
@@ -17,9 +16,9 @@ use Rattle.chan_syntax.specs.declared.operands.WrittenMention.{WrittenMention}
 use Rattle.chan_syntax.specs.declared.operands.WrittenCert.{WrittenCert}
 use Rattle.chan_syntax.specs.declared.operands.Proof.{Proof}
 use Rattle.text_tokens.specs.Text.{Piece}
-use Rattle.surface_spelling.specs.Layout.{keyword, mark, name, number, space, listed, in_parens, in_brackets, pair}
+use Rattle.surface_spelling.specs.Layout.{mark, name, number, space, listed, in_parens, in_brackets}
 use Rattle.surface_spelling.specs.Operands.{a_name, integer, product, first_part, next_part, more_parts, sum, term, relation_mark, limit, limits, binds, binds_before, binds_behind, reference, shape, boxed_res, res, param, value, boxed_value, values, names_behind, pat, two_pats, path, mention, mentions_behind, cert, instances, certificates, proof}
-use Rattle.spelling_laws.proofs.Apart.{Next, a_word, a_mark, Apart, Soft, apart_rules, layout_rules, apart_open, apart_less, apart_mark, apart_gap, apart_append, soft_front}
+use Rattle.spelling_cuts.proofs.Apart.{Next, a_word, a_mark, Apart, Soft, apart_rules, layout_rules, apart_open, apart_less, apart_mark, apart_gap, apart_append, soft_front}
 
 -- ---- terms
 

@@ -1,20 +1,20 @@
 -- A text is cut at words that are tokens and stand apart.
-use Rattle.std.proofs.Common.{◌≡◌, ℕ, suc, inl, inr, Bool, true, false, not, ◌&&◌, ◌||◌, ◌==◌, if◌then◌else◌, List, [], ◌∷◌, ◌++◌, length, codes, bytes_eq, refl, sym, ◌∙◌, ap, subst, arith}
-use Rattle.std.proofs.lemmas.Bool.{and_parts, and_from, or_cases, not-true, both_ways, false_from_ne_true, eqb-true, cases_Bool}
+use Rattle.std.proofs.Common.{◌≡◌, ℕ, inl, inr, Bool, true, false, not, ◌&&◌, ◌||◌, ◌==◌, List, [], ◌∷◌, ◌++◌, refl, subst, arith}
+use Rattle.std.proofs.lemmas.Bool.{and_parts, or_cases, not-true, both_ways, false_from_ne_true, eqb-true}
 use Rattle.std.proofs.lemmas.Grind.{common_steps}
 use Rattle.std.specs.Char.{is_ascii_digit}
 use Rattle.std.specs.List.{list_all}
 use Rattle.text_tokens.specs.declared.TokenKind.{TokenKind}
 use Rattle.text_tokens.specs.declared.TokenKind.TheVariants.{Name, Number, Keyword, Mark}
-use Rattle.text_tokens.specs.Word.{marks, begins_name, continues_name, is_spelled_as_name, is_digits, is_keyword, is_mark, HasForm, IsToken, IsLongest}
-use Rattle.text_tokens.specs.Text.{Piece, separator, comment, token, is_separator, bytes_of, text_of, FitsBefore, IsCutBefore}
+use Rattle.text_tokens.specs.Word.{marks, begins_name, continues_name, is_spelled_as_name, is_mark, HasForm, IsLongest}
+use Rattle.text_tokens.specs.Text.{Piece, separator, comment, token, is_separator, text_of, IsCutBefore}
 use Rattle.text_tokens.proofs.Forms.{member, keyword-spelled, mark-begins, mark-short, no_form-nil, first_byte-continues}
 use Rattle.text_tokens.proofs.Longest.{Stops, longest_name, longest_digits, longest_pair, longest_single, NoPair}
 use Rattle.chan_syntax.specs.declared.surface_tree.Surface.{Surface}
 use Rattle.surface_spelling.specs.Spelling.{program}
-use Rattle.spelling_laws.specs.Words.{words, AreTokens}
-use Rattle.spelling_laws.proofs.Apart.{Next, a_word, a_mark, a_gap, next, no_word, is_gap, class, may, parted, gap_behind}
-use Rattle.spelling_laws.proofs.ApartProgram.{program_apart}
+use Rattle.spelling_cuts.specs.Words.{words, AreTokens}
+use Rattle.spelling_cuts.proofs.Apart.{Next, a_gap, next, no_word, is_gap, may, parted, gap_behind}
+use Rattle.spelling_cuts.proofs.ApartProgram.{program_apart}
 
 -- ---- what a byte begins
 

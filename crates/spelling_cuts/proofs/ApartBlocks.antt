@@ -1,5 +1,5 @@
 -- The words of statements and blocks stand apart.
-use Rattle.std.proofs.Common.{◌≡◌, ℕ, ◌+◌, true, false, Bool, if◌then◌else◌, List, [], ◌∷◌, ◌++◌, codes, refl}
+use Rattle.std.proofs.Common.{ℕ, ◌+◌, if◌then◌else◌, List, [], ◌∷◌, ◌++◌, codes, refl}
 use Rattle.chan_syntax.specs.declared.linear.Term.{Term}
 use Rattle.chan_syntax.specs.declared.linear.Bound.{Bound}
 use Rattle.chan_syntax.specs.declared.resources.Ref.{Ref}
@@ -14,11 +14,11 @@ use Rattle.chan_syntax.specs.declared.surface_tree.Stmt.{Stmt, Let, Mul, Div, Re
 use Rattle.chan_syntax.specs.declared.surface_tree.Last.{Last, Ret, Tail, If', Match', Branch', Absurd, Loop', Again, Row_of-Last, end_of-Last, more_of-Last}
 use Rattle.chan_syntax.specs.declared.surface_tree.Block.{Block}
 use Rattle.text_tokens.specs.Text.{Piece}
-use Rattle.surface_spelling.specs.Layout.{keyword, mark, name, number, space, step, line, listed, in_parens, pair, closing, in_braces}
+use Rattle.surface_spelling.specs.Layout.{keyword, name, number, space, step, line, pair, closing, in_braces}
 use Rattle.surface_spelling.specs.Operands.{term, reference, names_behind, pat, two_pats, proof}
 use Rattle.surface_spelling.specs.Blocks.{let_is, call, access, target, start, name_and_binds, result_behind, task_head, header, loop_head, let_fork, sent, at_most, condition, match_head, arm_head, as_names, branch_head, stmt, last, row_of_stmts, boxed_last, stmts, block}
-use Rattle.spelling_laws.proofs.Apart.{Next, a_word, a_mark, Apart, Soft, apart_rules, apart_append, apart_open, soft_front, soft_gap, line_apart, line_soft}
-use Rattle.spelling_laws.proofs.ApartOperands.{operand_rules, res_apart}
+use Rattle.spelling_cuts.proofs.Apart.{Next, a_word, a_mark, Apart, Soft, apart_rules, apart_append, apart_open, soft_front, soft_gap, line_apart, line_soft}
+use Rattle.spelling_cuts.proofs.ApartOperands.{operand_rules, res_apart}
 
 -- ---- what several statements have
 

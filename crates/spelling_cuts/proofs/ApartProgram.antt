@@ -1,5 +1,5 @@
 -- The words of a program stand apart.
-use Rattle.std.proofs.Common.{◌≡◌, ℕ, Bool, true, false, if◌then◌else◌, List, [], ◌∷◌, ◌++◌, codes, Option, Some, None, refl}
+use Rattle.std.proofs.Common.{ℕ, List, [], ◌∷◌, ◌++◌, codes, Option, Some, None, refl}
 use Rattle.chan_syntax.specs.declared.linear.Bound.{Bound}
 use Rattle.chan_syntax.specs.declared.resources.Ref.{Ref}
 use Rattle.chan_syntax.specs.declared.resources.Res.{Res}
@@ -11,12 +11,11 @@ use Rattle.chan_syntax.specs.declared.surface_tree.Body.TheVariants as body
 use Rattle.chan_syntax.specs.declared.surface_tree.Decl.{Decl}
 use Rattle.chan_syntax.specs.declared.surface_tree.Decl.TheVariants as decl
 use Rattle.chan_syntax.specs.declared.surface_tree.Surface.{Surface}
-use Rattle.surface_spelling.specs.Layout.{keyword, mark, name, space, line}
-use Rattle.surface_spelling.specs.Operands.{reference}
-use Rattle.surface_spelling.specs.Blocks.{condition, block}
+use Rattle.surface_spelling.specs.Layout.{mark, line}
+use Rattle.surface_spelling.specs.Blocks.{condition}
 use Rattle.surface_spelling.specs.Spelling.{then_ref, two_refs, alternatives, plain, pbody, proto_head, proto, func_head, func, declaration, declarations, program}
-use Rattle.spelling_laws.proofs.Apart.{Next, a_word, a_mark, Apart, Soft, apart_rules, apart_append, apart_open, soft_front, line_apart, line_soft}
-use Rattle.spelling_laws.proofs.ApartBlocks.{statement_rules, condition_apart}
+use Rattle.spelling_cuts.proofs.Apart.{Next, a_word, a_mark, Apart, Soft, apart_append, apart_open}
+use Rattle.spelling_cuts.proofs.ApartBlocks.{statement_rules, condition_apart}
 
 then_soft : (next : Option Ref) → Soft a_mark (then_ref next)
 unfolding then_ref
