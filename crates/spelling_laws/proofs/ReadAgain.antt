@@ -1,18 +1,23 @@
 -- A spelling is read as its tree again, places aside.
-use Rattle.std.proofs.Common.{◌≡◌, ℕ, zero, suc, ◌<◌, List, [], ◌∷◌, ◌++◌, map, refl, ap, arith}
+use Rattle.std.proofs.Common.{◌≡◌, ℕ, zero, suc, ◌<◌, List, [], ◌∷◌, ◌++◌, map, refl, ap, arith, sym, ◌∙◌, subst}
 use Rattle.std.specs.List.{All}
 use Rattle.std.proofs.lemmas.List.Elements.{All-head, All-tail}
 use Rattle.text_tokens.specs.Text.{Piece, separator, comment, token, Token, StandsIn, tokens_behind}
+use Rattle.text_tokens.proofs.Cuts.{one_list}
 use Rattle.text_tokens.proofs.Each.{each_stands}
+use Rattle.grammar_laws.proofs.Knot.{one_tree}
 use Rattle.grammar_laws.specs.Grammar.{Named}
 use Rattle.surface_spelling.specs.Layout.{bytes}
 use Rattle.surface_spelling.specs.Spelling.{program, spelling}
-use Rattle.surface_spelling.specs.Erased.{nowhere}
+use Rattle.surface_spelling.specs.Erased.{nowhere, erase}
+use Rattle.surface_spelling.proofs.PlacesOfBlocks.{places_aside}
 use Rattle.surface_grammar.specs.Words.{code}
 use Rattle.surface_grammar.specs.Grammar.{AValue, ARes, ABlock}
-use Rattle.surface_grammar.specs.Language.{body, max_levels}
+use Rattle.surface_grammar.specs.Declarations.{program as grammar}
+use Rattle.surface_grammar.proofs.Tests.{names_pass, program_passes, samples}
+use Rattle.surface_grammar.specs.Language.{body, max_levels, surface, Derives}
 use Rattle.spelling_cuts.specs.Words.{bare, words, AreTokens}
-use Rattle.spelling_laws.specs.Laws.{IsReadAgain}
+use Rattle.spelling_laws.specs.Laws.{IsReadAgain, IsSettled}
 use Rattle.spelling_cuts.proofs.Cut.{words_are_cut}
 use Rattle.spelling_laws.proofs.Kept.{KeepsNames, Levels}
 use Rattle.spelling_laws.proofs.KeptResources.{res_kept}
@@ -57,3 +62,11 @@ read_again text s reads =
     let again = program_kept.again (levels max_levels) s reads.0 (are_tokens text reads.0 (each_stands text reads.0 reads.1)) reads.2 in
     let tree = again.1 (tokens_behind [] (program s)) (bare_behind [] (program s)) in
     (tree.0, (tokens_behind [] (program s), (program s, refl, words_are_cut s again.0, refl), tree.2), tree.1)
+
+pub settled : IsSettled
+settled text s again reads other =
+    let first = read_again text s reads in
+    let tokens = one_list (spelling s) other.0 first.1.0 other.1 first.1.1 in
+    let same = one_tree surface names_pass samples grammar program_passes again first.0 first.1.0 (max_levels, subst (Derives again) tokens other.2) (max_levels, first.1.2) in
+    let bared = ap erase same ∙ first.2 in
+    (bared, sym (places_aside again) ∙ ap spelling bared ∙ places_aside s)

@@ -13,3 +13,7 @@ Reads text tree = (tokens : List Token) × HasTokens text tokens × Derives tree
 -- The spelling of a tree that some text reads as is read as that tree again, places aside.
 abbrev pub IsReadAgain : Type 0
 IsReadAgain = (text : List ℕ) (s : Surface) → Reads text s → (again : Surface) × Reads (spelling s) again × (erase again ≡ erase s)
+
+-- Whatever the spelling of such a tree is read as is the tree, places aside, and is spelled the same.
+abbrev pub IsSettled : Type 0
+IsSettled = (text : List ℕ) (s again : Surface) → Reads text s → Reads (spelling s) again → (erase again ≡ erase s) × (spelling again ≡ spelling s)
