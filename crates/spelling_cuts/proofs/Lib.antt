@@ -1,0 +1,5 @@
+pub mod Apart
+pub mod ApartOperands
+pub mod ApartBlocks
+pub mod ApartProgram
+pub mod Cut

@@ -1,0 +1,11 @@
+pub mod WordTokens
+pub mod Kept
+pub mod KeptTerms
+pub mod KeptResources
+pub mod KeptOperands
+pub mod KeptProofs
+pub mod KeptParts
+pub mod KeptLets
+pub mod KeptBlocks
+pub mod KeptProgram
+pub mod ReadAgain
