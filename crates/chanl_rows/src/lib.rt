@@ -11,3 +11,5 @@ mod names;
 mod replays;
 #[cfg(test)]
 mod spellings;
+#[cfg(test)]
+mod worked;
