@@ -5,3 +5,5 @@ pub mod SpelledSums
 pub mod Places
 pub mod Replaced
 pub mod Fitting
+pub mod Shorts
+pub mod Rebuilt

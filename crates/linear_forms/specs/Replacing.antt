@@ -7,7 +7,7 @@ use Rattle.core_language.specs.Resources.{Shape, Res}
 use Rattle.core_language.specs.Resources as resource
 use Rattle.linear_forms.specs.Terms.{IntVar, times_of}
 use Rattle.linear_forms.specs.Normal.{names_of}
-use Rattle.linear_forms.specs.Substitution.{Scoped, puts}
+use Rattle.linear_forms.specs.Substitution.{Scoped, puts, Fits}
 
 -- ---- terms
 
@@ -82,3 +82,21 @@ AreSafe most put terms around [] [] = Unit {0}
 AreSafe most put terms around [] (z ∷ zs) = ⊥
 AreSafe most put terms around (y ∷ ys) [] = ⊥
 AreSafe most put terms around (y ∷ ys) (z ∷ zs) = IsSafe most put terms (length ys + around) y z × AreSafe most put terms around ys zs
+
+-- ---- places where terms are put in
+
+-- a term under binders that are safe for it
+pub record IsReady (put : List IntVar) (before after : List Ident) (term : Term) : Type 0 where
+  pub most : ℕ
+  pub safe : AreSafe most put (record { binders = before; term = term } ∷ []) 0 before after
+  pub short : IsShortTerm most term
+  pub put_short : ArePutShort most put
+
+pub record IsReadyLimit (put : List IntVar) (before after : List Ident) (limit : Limit) : Type 0 where
+  pub left : IsReady put before after limit.left
+  pub right : IsReady put before after limit.right
+
+-- the normal forms of both terms have numbers of 64 bits
+pub record FitsLimit (put : List IntVar) (before : List Ident) (limit : Limit) : Type 0 where
+  pub left : Fits put before limit.left
+  pub right : Fits put before limit.right
