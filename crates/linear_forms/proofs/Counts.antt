@@ -1,10 +1,10 @@
 -- What names and bare numbers count of a term decides its sums.
-use Rattle.std.proofs.Common.{◌≡◌, ℕ, zero, suc, ◌+◌, ◌≤◌, ℤ, pos, neg_ℤ, ◌+ℤ◌, ◌*ℤ◌, ◌-ℤ◌, Bool, true, false, not, if◌then◌else◌, List, [], ◌∷◌, ◌++◌, length, map, Option, Some, None, refl, sym, ◌∙◌, ap, arith}
+use Rattle.std.proofs.Common.{◌≡◌, ℕ, zero, suc, ◌≤◌, ℤ, pos, neg_ℤ, ◌+ℤ◌, ◌*ℤ◌, ◌-ℤ◌, Bool, true, false, not, if◌then◌else◌, [], ◌∷◌, ◌++◌, length, map, Option, Some, None, refl, sym, ap, arith}
 use Rattle.std.proofs.lemmas.Int.{ints}
 use Rattle.std.proofs.Math.IntN as Z
 use Rattle.core_language.specs.Names.{Ident, same}
 use Rattle.core_language.specs.Terms.{Part, Term}
-use Rattle.farkas_check.proofs.Products.{distribute, distribute_right, neg_times}
+use Rattle.farkas_check.proofs.Products.{distribute_right, neg_times}
 use Rattle.linear_forms.specs.Terms.{times_of, counted, sum_of}
 use Rattle.linear_forms.specs.NormalTerms.{one_named, count_of, bare_of, IsSameSum}
 use Rattle.linear_forms.proofs.SameNames.{same_is, same-self}

@@ -1,5 +1,5 @@
 -- 64 bits hold the numbers of a result's term exactly where they hold those of the term with the terms put in.
-use Rattle.std.proofs.Common.{◌≡◌, ◌≢◌, ◌⊎◌, inl, inr, ℕ, zero, suc, ℤ, pos, ◌+ℤ◌, ◌*ℤ◌, nat_eq, Bool, true, false, if◌then◌else◌, List, [], ◌∷◌, Option, Some, None, refl, sym, ◌∙◌, ap, subst, arith}
+use Rattle.std.proofs.Common.{◌≡◌, ◌≢◌, ◌⊎◌, inl, inr, ℕ, ℤ, pos, Bool, true, false, if◌then◌else◌, List, [], ◌∷◌, Option, Some, None, refl, sym, ◌∙◌, ap, subst, arith}
 use Rattle.std.proofs.lemmas.Int.{ints}
 use Rattle.std.proofs.Math.IntN as Z
 use Rattle.std.proofs.lemmas.Bool.{eqb-true, eq-eqb}
@@ -12,7 +12,7 @@ use Rattle.linear_forms.specs.NormalTerms.{one_named, count_of, bare_of, Numbers
 use Rattle.linear_forms.specs.Substitution.{Var, Free, Inside, place_of, at_place, sum_under, same_var, one_var, Fits, IsPutTerm}
 use Rattle.linear_forms.proofs.Linear.{sum_of-cong}
 use Rattle.linear_forms.proofs.SameNames.{same_is, same-self}
-use Rattle.linear_forms.proofs.Places.{apart, name_at, name_at-place}
+use Rattle.linear_forms.proofs.Places.{name_at, name_at-place}
 use Rattle.linear_forms.proofs.Replaced.{seen_at}
 
 -- the variable that a name is

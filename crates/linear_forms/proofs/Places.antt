@@ -1,11 +1,10 @@
 -- Places of names among binders, and the new names of binders.
-use Rattle.std.proofs.Common.{◌≡◌, ◌≢◌, ◌⊎◌, inl, inr, ℕ, zero, suc, ◌+◌, ◌<◌, ◌≤◌, Bool, true, false, ◌||◌, if◌then◌else◌, List, [], ◌∷◌, length, Option, Some, None, option_map, refl, sym, ◌∙◌, ap, arith}
-use Rattle.std.proofs.Math.Bool.{false≢true}
+use Rattle.std.proofs.Common.{◌≡◌, ◌≢◌, ◌⊎◌, inl, inr, ℕ, zero, suc, ◌+◌, ◌<◌, ◌≤◌, Bool, true, false, ◌||◌, List, [], ◌∷◌, length, Option, Some, None, option_map, refl, sym, ◌∙◌, ap, arith}
 use Rattle.std.specs.List.{list_any}
 use Rattle.core_language.specs.Names.{Ident, same}
 use Rattle.linear_forms.specs.Terms.{IntVar}
 use Rattle.linear_forms.specs.Substitution.{place_of, Scoped, puts}
-use Rattle.linear_forms.specs.Replacing.{new_name, IsShort, IsSafe, AreSafe}
+use Rattle.linear_forms.specs.Replacing.{new_name, IsShort, AreSafe}
 use Rattle.linear_forms.proofs.SameNames.{same_is, same-self}
 
 pub differ : (x y : Ident) → length x ≢ length y → same x y ≡ false

@@ -1,5 +1,5 @@
 -- Resources that are built again, term by term and binder by binder.
-use Rattle.std.proofs.Common.{◌≡◌, ◌≢◌, inl, inr, ℕ, zero, suc, ◌+◌, ◌≤◌, Bool, true, false, ◌||◌, List, [], ◌∷◌, ◌++◌, All, map, flat_map, length, refl, sym, ◌∙◌, ap, subst, arith}
+use Rattle.std.proofs.Common.{◌≡◌, inl, inr, ℕ, suc, ◌+◌, Bool, true, false, ◌||◌, List, [], ◌∷◌, ◌++◌, All, flat_map, length, refl, sym, ◌∙◌, ap, subst, arith}
 use Rattle.std.specs.List.{list_any}
 use Rattle.std.proofs.Math.Bool.{false≢true}
 use Rattle.std.proofs.lemmas.List.{length-append}
@@ -8,7 +8,7 @@ use Rattle.core_language.specs.Names.{Ident}
 use Rattle.core_language.specs.Terms.{Term, Limit}
 use Rattle.core_language.specs.Resources.{Res}
 use Rattle.linear_forms.specs.Terms.{IntVar}
-use Rattle.linear_forms.specs.Substitution.{Scoped, scoped, terms_of_limit, terms_of_res, puts, catches, Fits, AllFit, Each, IsRenamed}
+use Rattle.linear_forms.specs.Substitution.{Scoped, scoped, terms_of_limit, puts, catches, Fits, AllFit, Each, IsRenamed}
 use Rattle.linear_forms.specs.Replacing.{IsShort, IsShortTerm, IsShortLimit, ArePutShort, IsSafe, AreSafe, IsReady, IsReadyLimit, FitsLimit}
 use Rattle.linear_forms.proofs.Places.{safe_for}
 

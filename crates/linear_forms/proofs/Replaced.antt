@@ -1,5 +1,5 @@
 -- A term that stands in a result has the value of the term with the terms put in.
-use Rattle.std.proofs.Common.{◌≡◌, ◌≢◌, ℕ, zero, suc, ◌+◌, ◌≤◌, ℤ, pos, ◌+ℤ◌, ◌*ℤ◌, Bool, true, false, ◌&&◌, ◌||◌, if◌then◌else◌, List, [], ◌∷◌, ◌++◌, All, map, flat_map, find, length, Option, Some, None, option_map, option_to_list, is_none, refl, sym, ◌∙◌, ap, subst, arith}
+use Rattle.std.proofs.Common.{◌≡◌, ℕ, suc, ℤ, ◌*ℤ◌, Bool, true, false, ◌&&◌, ◌||◌, List, [], ◌∷◌, ◌++◌, All, find, Option, Some, None, option_map, option_to_list, is_none, refl, sym, ◌∙◌, ap, subst, arith}
 use Rattle.std.specs.List.{list_any}
 use Rattle.std.proofs.lemmas.Int.{ints}
 use Rattle.std.proofs.Math.IntN as Z
@@ -10,8 +10,8 @@ use Rattle.core_language.specs.Terms.{Part, Term}
 use Rattle.farkas_check.proofs.Products.{distribute, times_times}
 use Rattle.linear_forms.specs.Terms.{IntVar, times_of, counted, sum_of, named}
 use Rattle.linear_forms.specs.Normal.{names_of}
-use Rattle.linear_forms.specs.Substitution.{Var, Free, Inside, place_of, at_place, sum_under, Scoped, put_names, puts}
-use Rattle.linear_forms.specs.Replacing.{counting, scaled, new_name, stands_for, replaced_name, replaced_part, replaced, IsShort, IsShortTerm, ArePutShort, AreSafe}
+use Rattle.linear_forms.specs.Substitution.{Var, Free, place_of, at_place, sum_under, Scoped, put_names, puts}
+use Rattle.linear_forms.specs.Replacing.{scaled, replaced_name, replaced_part, replaced, IsShort, IsShortTerm, ArePutShort, AreSafe}
 use Rattle.linear_forms.proofs.SameNames.{same_is, same-self}
 use Rattle.linear_forms.proofs.Counts.{sum-append}
 use Rattle.linear_forms.proofs.Places.{found_new, no_new, stays_free, safe_for}

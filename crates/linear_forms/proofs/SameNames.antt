@@ -1,5 +1,5 @@
 -- The test of names.
-use Rattle.std.proofs.Common.{◌≡◌, Bool, true, false}
+use Rattle.std.proofs.Common.{◌≡◌, true}
 use Rattle.std.specs.Cmp.Lexicographic.{bytes_decides, nat_list_eq_equiv}
 use Rattle.core_language.specs.Names.{Ident, same}
 

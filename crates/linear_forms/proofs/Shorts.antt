@@ -1,9 +1,9 @@
 -- Lists whose members have one property, and short names.
-use Rattle.std.proofs.Common.{◌≡◌, ℕ, ◌+◌, ◌<◌, ◌≤◌, List, [], ◌∷◌, ◌++◌, All, map, take, get_or, length, option_to_list, arith, max}
+use Rattle.std.proofs.Common.{ℕ, ◌+◌, ◌<◌, ◌≤◌, List, [], ◌∷◌, ◌++◌, All, map, take, get_or, length, option_to_list, arith}
 use Rattle.std.proofs.lemmas.List.{take_more}
 use Rattle.std.proofs.lemmas.List.Elements.{All-nil, All-cons, All-append, All-head, All-tail}
 use Rattle.core_language.specs.Names.{Ident}
-use Rattle.core_language.specs.Terms.{Part, Term}
+use Rattle.core_language.specs.Terms.{Term}
 use Rattle.core_language.specs.Resources.{Shape, Res}
 use Rattle.core_language.specs.Resources as resource
 use Rattle.linear_forms.specs.Terms.{IntVar}

@@ -1,6 +1,5 @@
 -- The term that is spelled of sums.
-use Rattle.std.proofs.Common.{◌≡◌, ◌≢◌, ℕ, ℤ, pos, negsuc, neg_ℤ, ◌+ℤ◌, ◌*ℤ◌, int_lt, Bool, true, false, ◌&&◌, not, if◌then◌else◌, List, [], ◌∷◌, ◌++◌, map, Option, Some, None, unwrap_or, refl, sym, ◌∙◌, ap, arith, All}
-use Rattle.std.specs.Option.{option_map}
+use Rattle.std.proofs.Common.{◌≡◌, ◌≢◌, ℤ, pos, negsuc, neg_ℤ, ◌+ℤ◌, ◌*ℤ◌, int_lt, Bool, true, false, ◌&&◌, if◌then◌else◌, List, [], ◌∷◌, ◌++◌, Option, Some, None, unwrap_or, refl, sym, ◌∙◌, ap, arith, All}
 use Rattle.std.specs.Ordering.{nat_cmp, int_eq, is_eq}
 use Rattle.std.specs.Cmp.Lexicographic.{slice_cmp, texts_ties}
 use Rattle.std.specs.declared.cmp.Ordering.TheVariants.{Less}
@@ -15,10 +14,10 @@ use Rattle.std.proofs.lemmas.Bool.Decides.{Decides-int_eq}
 use Rattle.std.proofs.lemmas.Int.{ints}
 use Rattle.std.proofs.Math.IntN as Z
 use Rattle.core_language.specs.Names.{Ident, same}
-use Rattle.core_language.specs.Terms.{Part, Term}
+use Rattle.core_language.specs.Terms.{Part}
 use Rattle.linear_forms.specs.Terms.{times_of, counted, sum_of}
-use Rattle.linear_forms.specs.NormalTerms.{Counted, signed, named_parts, constant_parts, spelled, one_named, count_of, bare_of, IsNormal, counted_once, nonzero, IsSameSum}
-use Rattle.linear_forms.proofs.SameNames.{same_is, same-self}
+use Rattle.linear_forms.specs.NormalTerms.{Counted, signed, named_parts, constant_parts, spelled, one_named, count_of, bare_of, counted_once, nonzero}
+use Rattle.linear_forms.proofs.SameNames.{same_is}
 use Rattle.linear_forms.proofs.Counts.{sum-append}
 
 times_one : (z : ℤ) → z *ℤ pos 1 ≡ z

@@ -5,7 +5,7 @@ use Rattle.std.specs.List.Sorted.{IsStrictlySortedBy}
 use Rattle.std.specs.Cmp.Lexicographic.{slice_cmp}
 use Rattle.core_language.specs.Names.{Ident, same}
 use Rattle.core_language.specs.Terms.{Part, Term}
-use Rattle.linear_forms.specs.Terms.{times_of, sum_of}
+use Rattle.linear_forms.specs.Terms.{sum_of}
 use Rattle.linear_forms.specs.Normal.{fits}
 
 -- a name, and how often it counts

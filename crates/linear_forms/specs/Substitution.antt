@@ -1,8 +1,8 @@
 -- Resources in which terms are put in for names, up to the names of binders.
-use Rattle.std.specs.Prelude.{◌≡◌, ℕ, suc, nat_eq, ℤ, pos, true, false, Bool, ◌&&◌, if◌then◌else◌, List, [], ◌∷◌, ◌++◌, All, map, flat_map, find, Option, Some, None, option_map, is_none}
+use Rattle.std.specs.Prelude.{◌≡◌, ℕ, suc, nat_eq, ℤ, pos, true, false, Bool, ◌&&◌, if◌then◌else◌, List, [], ◌∷◌, ◌++◌, All, map, flat_map, Option, Some, None, option_map, is_none}
 use Rattle.std.specs.List.{list_any}
 use Rattle.core_language.specs.Names.{Ident, same}
-use Rattle.core_language.specs.Terms.{Part, Term, Limit, Bound}
+use Rattle.core_language.specs.Terms.{Term, Limit}
 use Rattle.core_language.specs.Resources.{Ref, Shape, Res}
 use Rattle.core_language.specs.Resources as resource
 use Rattle.linear_forms.specs.Terms.{IntVar, sum_of, named}
