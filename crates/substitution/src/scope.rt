@@ -1,0 +1,67 @@
+//! What is put in for names, and the binders around a place.
+ghost use Rattle.std.specs.Prelude.{◌≡◌, map, find, length, IfOk};
+ghost use Rattle.std.specs.Option.{option_copied};
+ghost use Rattle.core_language.specs.Names.{same};
+ghost use Rattle.linear_forms.specs.Replacing as spec;
+ghost use Rattle.substitution.specs.Scopes.{put_in, put_of, before_of, after_of};
+
+use chan_base::Memory;
+use chan_syntax::{Ident, Idents, Term, Terms};
+use sqlite_items::Items;
+use std::alloc::Global;
+
+pub(crate) type Puts = Items<Put>;
+
+pub(crate) type Scope = Items<Binder>;
+
+/// A name, and the term that is put in for it.
+#[derive(Drop)]
+pub(crate) struct Put {
+    pub name: Ident,
+    pub term: Term,
+}
+
+/// A binder, and its name in the result.
+#[derive(Drop)]
+pub(crate) struct Binder {
+    pub name: Ident,
+    pub made: Ident,
+}
+
+fn binder_named<'a>(scope: &'a [Binder], name: &Ident) -> Option<&'a Binder>
+    ensures { option_copied result ≡ find (λ b. same b.name name.now) scope.now }
+{
+    scope.iter().find(|binder| binder.name == *name)
+}
+
+/// The new name of a binder.
+#[tactic(auto, using(crate::proofs::Lookups::new_name_found))]
+pub(crate) fn new_name<'a>(scope: &'a [Binder], name: &Ident) -> Option<&'a Ident>
+    ensures { option_copied result ≡ spec.new_name (before_of scope.now) (after_of scope.now) name.now }
+{
+    match binder_named(scope, name) {
+        Some(binder) => Some(&binder.made),
+        None => None,
+    }
+}
+
+pub(crate) fn put_named<'a>(put: &'a [Put], name: &Ident) -> Option<&'a Put>
+    ensures { option_copied result ≡ find (λ v. same v.name name.now) put.now }
+{
+    put.iter().find(|put| put.name == *name)
+}
+
+#[tactic(auto, using(crate::proofs::Lists::put_more))]
+pub(crate) fn puts_of(alloc: Global, names: &Idents, by: &Terms) -> Result<Puts, Memory>
+    requires { length names.now ≡ length by.now }
+    ensures { IfOk result (λ put. map put_in put ≡ put_of names.now by.now) }
+{
+    let mut put = Items::new(alloc);
+    for index in 0..names.len() {
+        put.push(Put {
+            name: names.as_slice()[index].copy(alloc)?,
+            term: by.as_slice()[index].copy(alloc)?,
+        })?;
+    }
+    Ok(put)
+}
