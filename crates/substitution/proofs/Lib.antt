@@ -4,3 +4,6 @@ pub mod Lists
 pub mod ReadyTerms
 pub mod Entries
 pub mod EachNext
+pub mod Groups
+pub mod Inside
+pub mod Shapes

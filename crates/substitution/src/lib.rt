@@ -1,7 +1,9 @@
-//! Terms put in for names, in normal form.
+//! Terms put in for names, in normal form: terms and resources.
 #![tactic(auto)]
 
+mod catching;
 mod faults;
+mod lengths;
 mod putting;
 mod scope;
 mod spelling;
@@ -9,7 +11,7 @@ mod substituting;
 mod summands;
 
 pub use faults::SubstFault;
-pub use substituting::subst_terms;
+pub use substituting::{subst, subst_terms};
 
 #[cfg(test)]
 mod tests;

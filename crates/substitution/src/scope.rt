@@ -1,8 +1,9 @@
 //! What is put in for names, and the binders around a place.
-ghost use Rattle.std.specs.Prelude.{◌≡◌, map, find, length, IfOk};
+ghost use Rattle.std.specs.Prelude.{◌≡◌, ◌++◌, ◌∷◌, List, map, find, length, is_none, IfOk};
 ghost use Rattle.std.specs.Option.{option_copied};
 ghost use Rattle.core_language.specs.Names.{same};
 ghost use Rattle.linear_forms.specs.Replacing as spec;
+ghost use Rattle.linear_forms.specs.Substitution.{place_of};
 ghost use Rattle.substitution.specs.Scopes.{put_in, put_of, before_of, after_of};
 
 use chan_base::Memory;
@@ -45,6 +46,13 @@ pub(crate) fn new_name<'a>(scope: &'a [Binder], name: &Ident) -> Option<&'a Iden
     }
 }
 
+#[tactic(auto, using(crate::proofs::Lookups::place_found))]
+pub(crate) fn is_free(scope: &[Binder], name: &Ident) -> bool
+    ensures { result ≡ is_none (place_of (before_of scope.now) name.now) }
+{
+    binder_named(scope, name).is_none()
+}
+
 pub(crate) fn put_named<'a>(put: &'a [Put], name: &Ident) -> Option<&'a Put>
     ensures { option_copied result ≡ find (λ v. same v.name name.now) put.now }
 {
@@ -64,4 +72,50 @@ pub(crate) fn puts_of(alloc: Global, names: &Idents, by: &Terms) -> Result<Puts,
         })?;
     }
     Ok(put)
+}
+
+impl Binder {
+    fn copy(&self, alloc: Global) -> Result<Binder, Memory>
+        ensures { IfOk result (λ copy. copy ≡ self.now) }
+    {
+        Ok(Binder {
+            name: self.name.copy(alloc)?,
+            made: self.made.copy(alloc)?,
+        })
+    }
+}
+
+/// The binders of a resource, and then those around it.
+pub(crate) fn joined(alloc: Global, inner: Scope, outer: &Scope) -> Result<Scope, Memory>
+    ensures { IfOk result (λ scope. scope ≡ inner ++ outer.now) }
+{
+    let mut scope = inner;
+    for binder in outer.as_slice() {
+        scope.push(binder.copy(alloc)?)?;
+    }
+    Ok(scope)
+}
+
+/// Binders that keep their names.
+pub(crate) fn kept(alloc: Global, names: &Idents) -> Result<Scope, Memory>
+    ensures { IfOk result (λ scope. before_of scope ≡ names.now) }
+{
+    let mut scope = Items::new(alloc);
+    for name in names.as_slice() {
+        scope.push(Binder {
+            name: name.copy(alloc)?,
+            made: name.copy(alloc)?,
+        })?;
+    }
+    Ok(scope)
+}
+
+pub(crate) fn made_names(alloc: Global, scope: &Scope) -> Result<Idents, Memory>
+    ensures { IfOk result (λ names. names ≡ after_of scope.now) }
+{
+    let mut names = Items::new(alloc);
+    for binder in scope.as_slice() {
+        names.push(binder.made.copy(alloc)?)?;
+    }
+    Ok(names)
 }
