@@ -1,11 +1,11 @@
 -- A resource under the binders around it, and what is inside under its own as well.
-use Rattle.std.proofs.Common.{◌≡◌, ℕ, List, ◌++◌, All, map, flat_map, length, sym, ◌∙◌, ap, subst}
+use Rattle.std.proofs.Common.{◌≡◌, ℕ, List, ◌++◌, All, flat_map, length, sym, ◌∙◌, ap, subst}
 use Rattle.std.proofs.lemmas.List.{map-append, length-map}
 use Rattle.core_language.specs.Names.{Ident}
-use Rattle.core_language.specs.Terms.{Limit, Bound}
-use Rattle.core_language.specs.Resources.{Shape, Res, Binds}
+use Rattle.core_language.specs.Terms.{Bound}
+use Rattle.core_language.specs.Resources.{Shape, Binds}
 use Rattle.linear_forms.specs.Terms.{IntVar}
-use Rattle.linear_forms.specs.Substitution.{Scoped, scoped, puts, terms_of_limit, terms_of_shape, terms_of_res, Fits, AllFit, Each, IsLimitLike, IsShapeLike, IsResLike, IsRenamed, IsNormalPut}
+use Rattle.linear_forms.specs.Substitution.{Scoped, scoped, puts, terms_of_limit, terms_of_shape, terms_of_res, Fits, AllFit}
 use Rattle.linear_forms.specs.Replacing.{IsShortLimit, ArePutShort, AreSafe, IsReadyLimit, FitsLimit}
 use Rattle.linear_forms.proofs.Places.{safe_for}
 use Rattle.linear_forms.proofs.Rebuilt.{none_left, none_right, safe_join, ready_limits, fit_limits}
@@ -13,36 +13,50 @@ use Rattle.linear_forms.proofs.Shorts.{all_left, all_right}
 use Rattle.substitution.specs.declared.scope.Binder.{Binder}
 use Rattle.substitution.specs.Scopes.{before_of, after_of}
 
-module _ (most : ℕ) (put : List IntVar) (scope group : List Binder) (b : Bound) (s : Shape) (names : before_of group ≡ b.names) where
-  inner : before_of (group ++ scope) ≡ b.names ++ before_of scope
-  inner = map-append (λ (b : Binder). b.name) group scope ∙ ap (λ l. l ++ before_of scope) names
+module _ (most : ℕ) (put : List IntVar) (scope group joined : List Binder) (b : Bound) (s : Shape) (names : before_of group ≡ b.names) (all : joined ≡ group ++ scope) where
+  abbrev whole : List Scoped
+  whole = terms_of_res (before_of scope) (Binds b s)
 
-  outer : after_of (group ++ scope) ≡ after_of group ++ after_of scope
-  outer = map-append (λ (b : Binder). b.made) group scope
+  abbrev in_limits : List Ident → List Scoped
+  in_limits binders = scoped binders (flat_map terms_of_limit b.limits)
+
+  before : before_of joined ≡ before_of group ++ before_of scope
+  before = ap before_of all ∙ map-append (λ (x : Binder). x.name) group scope
+
+  after : after_of joined ≡ after_of group ++ after_of scope
+  after = ap after_of all ∙ map-append (λ (x : Binder). x.made) group scope
+
+  inner : b.names ++ before_of scope ≡ before_of joined
+  inner = sym (before ∙ ap (λ l. l ++ before_of scope) names)
 
   abbrev AllSafe : Type 0
-  AllSafe = AreSafe most put (terms_of_res (before_of scope) (Binds b s)) 0 (b.names ++ before_of scope) (after_of group ++ after_of scope)
+  AllSafe = AreSafe most put whole 0 (before_of joined) (after_of joined)
 
-  pub scope_safe : AreSafe most put (terms_of_res (before_of scope) (Binds b s)) (length scope) (before_of group) (after_of group) → AreSafe most put (terms_of_res (before_of scope) (Binds b s)) 0 (before_of scope) (after_of scope) → AllSafe
+  -- the binders inside are safe for all terms of the resource
+  pub scope_safe : AreSafe most put whole (length scope) (before_of group) (after_of group) → AreSafe most put whole 0 (before_of scope) (after_of scope) → AllSafe
   scope_safe own around =
-      let named = rw (names, sym (length-map scope (λ (b : Binder). b.name))) at own in
-      safe_join most put (terms_of_res (before_of scope) (Binds b s)) b.names (after_of group) (before_of scope) (after_of scope) named around
+      let here : AreSafe most put whole (length (before_of scope)) (before_of group) (after_of group) = subst (λ (n : ℕ). AreSafe most put whole n (before_of group) (after_of group)) (sym (length-map scope (λ (x : Binder). x.name))) own in
+      let both : AreSafe most put whole 0 (before_of group ++ before_of scope) (after_of group ++ after_of scope) = safe_join most put whole (before_of group) (after_of group) (before_of scope) (after_of scope) here around in
+      subst (λ (l : List Ident). AreSafe most put whole 0 l (after_of joined)) (sym before) (subst (λ (l : List Ident). AreSafe most put whole 0 (before_of group ++ before_of scope) l) (sym after) both)
 
-  pub limits_ready : AllSafe → ArePutShort most put → All (IsShortLimit most) b.limits → All (IsReadyLimit put (before_of (group ++ scope)) (after_of (group ++ scope))) b.limits
+  pub limits_ready : AllSafe → ArePutShort most put → All (IsShortLimit most) b.limits → All (IsReadyLimit put (before_of joined) (after_of joined)) b.limits
   limits_ready safe put_short short =
-      rw (inner, outer) (ready_limits most put (b.names ++ before_of scope) (after_of group ++ after_of scope) put_short b.limits (safe_for most put _ (scoped (b.names ++ before_of scope) (flat_map terms_of_limit b.limits)) 0 _ _ (λ y. none_left (puts put y) (scoped (b.names ++ before_of scope) (flat_map terms_of_limit b.limits)) (terms_of_shape (b.names ++ before_of scope) s)) safe) short)
+      let outer = b.names ++ before_of scope in
+      let own : AreSafe most put (in_limits outer) 0 (before_of joined) (after_of joined) = safe_for most put whole (in_limits outer) 0 (before_of joined) (after_of joined) (λ y. none_left (puts put y) (in_limits outer) (terms_of_shape outer s)) safe in
+      ready_limits most put (before_of joined) (after_of joined) put_short b.limits (subst (λ (l : List Ident). AreSafe most put (in_limits l) 0 (before_of joined) (after_of joined)) inner own) short
 
-  pub shape_safe : AllSafe → AreSafe most put (terms_of_shape (before_of (group ++ scope)) s) 0 (before_of (group ++ scope)) (after_of (group ++ scope))
+  pub shape_safe : AllSafe → AreSafe most put (terms_of_shape (before_of joined) s) 0 (before_of joined) (after_of joined)
   shape_safe safe =
-      rw (inner, outer) (safe_for most put _ (terms_of_shape (b.names ++ before_of scope) s) 0 _ _ (λ y. none_right (puts put y) (scoped (b.names ++ before_of scope) (flat_map terms_of_limit b.limits)) (terms_of_shape (b.names ++ before_of scope) s)) safe)
+      let outer = b.names ++ before_of scope in
+      let own : AreSafe most put (terms_of_shape outer s) 0 (before_of joined) (after_of joined) = safe_for most put whole (terms_of_shape outer s) 0 (before_of joined) (after_of joined) (λ y. none_right (puts put y) (in_limits outer) (terms_of_shape outer s)) safe in
+      subst (λ (l : List Ident). AreSafe most put (terms_of_shape l s) 0 (before_of joined) (after_of joined)) inner own
 
-  pub built : (limits : List Limit) (t : Shape) → Each (IsRenamed put (before_of scope) (Binds b s)) b.names (after_of group) → Each (IsLimitLike (IsNormalPut put) (before_of (group ++ scope)) (after_of (group ++ scope))) b.limits limits → IsShapeLike (IsRenamed put) (IsNormalPut put) (before_of (group ++ scope)) (after_of (group ++ scope)) s t → IsResLike (IsRenamed put) (IsNormalPut put) (before_of scope) (after_of scope) (Binds b s) (Binds (record { names = after_of group; limits = limits }) t)
-  built limits t renamed each like = (renamed, rw (inner, outer) at each, rw (inner, outer) at like)
-
-  pub limits_too_large : (All (FitsLimit put (before_of (group ++ scope))) b.limits → ⊥) → AllFit put (terms_of_res (before_of scope) (Binds b s)) → ⊥
+  pub limits_too_large : (All (FitsLimit put (before_of joined)) b.limits → ⊥) → AllFit put whole → ⊥
   limits_too_large none fit =
-      none (rw inner (fit_limits put (b.names ++ before_of scope) b.limits (all_left (λ (s : Scoped). Fits put s.binders s.term) (scoped (b.names ++ before_of scope) (flat_map terms_of_limit b.limits)) (terms_of_shape (b.names ++ before_of scope) s) fit)))
+      let outer = b.names ++ before_of scope in
+      none (subst (λ (l : List Ident). All (FitsLimit put l) b.limits) inner (fit_limits put outer b.limits (all_left (λ (t : Scoped). Fits put t.binders t.term) (in_limits outer) (terms_of_shape outer s) fit)))
 
-  pub shape_too_large : (AllFit put (terms_of_shape (before_of (group ++ scope)) s) → ⊥) → AllFit put (terms_of_res (before_of scope) (Binds b s)) → ⊥
+  pub shape_too_large : (AllFit put (terms_of_shape (before_of joined) s) → ⊥) → AllFit put whole → ⊥
   shape_too_large none fit =
-      none (rw inner (all_right (λ (s : Scoped). Fits put s.binders s.term) (scoped (b.names ++ before_of scope) (flat_map terms_of_limit b.limits)) (terms_of_shape (b.names ++ before_of scope) s) fit))
+      let outer = b.names ++ before_of scope in
+      none (subst (λ (l : List Ident). AllFit put (terms_of_shape l s)) inner (all_right (λ (t : Scoped). Fits put t.binders t.term) (in_limits outer) (terms_of_shape outer s) fit))

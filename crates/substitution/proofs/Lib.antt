@@ -6,4 +6,5 @@ pub mod Entries
 pub mod EachNext
 pub mod Groups
 pub mod Inside
+pub mod Forms
 pub mod Shapes

@@ -1,5 +1,5 @@
 -- Lists that grow by one, through `map` and `flat_map`.
-use Rattle.std.proofs.Common.{◌≡◌, ℕ, ◌+◌, ◌<◌, ◌≤◌, ℤ, ◌*ℤ◌, arith, List, [], ◌∷◌, ◌++◌, map, flat_map, take, get_or, length, sym, ◌∙◌, ap, refl}
+use Rattle.std.proofs.Common.{◌≡◌, ℕ, ◌+◌, ◌<◌, ℤ, ◌*ℤ◌, arith, List, [], ◌∷◌, ◌++◌, map, flat_map, take, get_or, length, sym, ◌∙◌, ap, refl}
 use Rattle.std.proofs.lemmas.List.{take_more, map-append, append-nil, append_assoc, length-take-le}
 use Rattle.std.proofs.lemmas.List.Concat.{flat_map-append}
 use Rattle.core_language.specs.Names.{Ident}

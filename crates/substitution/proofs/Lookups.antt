@@ -3,7 +3,7 @@ use Rattle.std.specs.List.{list_any}
 use Rattle.std.proofs.lemmas.List.Folds.{list_any-append}
 use Rattle.linear_forms.specs.Normal.{names_of}
 use Rattle.chan_syntax.specs.Reading.{term_of}
-use Rattle.std.proofs.Common.{◌≡◌, ◌||◌, ◌++◌, sym, ◌∙◌, ap, ℕ, suc, Bool, true, false, if◌then◌else◌, List, [], ◌∷◌, map, find, Option, Some, None, option_map, is_none, is_some, refl}
+use Rattle.std.proofs.Common.{◌≡◌, ◌||◌, ◌++◌, sym, ◌∙◌, ap, ℕ, suc, Bool, true, false, if◌then◌else◌, List, [], ◌∷◌, map, find, Option, Some, None, option_map, is_none, refl}
 use Rattle.core_language.specs.Names.{Ident, same}
 use Rattle.linear_forms.specs.Substitution.{place_of, put_names}
 use Rattle.linear_forms.specs.Replacing.{new_name}

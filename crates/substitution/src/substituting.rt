@@ -16,12 +16,7 @@ use chan_syntax::{Bound, Ident, Idents, Limit, Limits, Ref, Res, Shape, Term, Te
 use sqlite_items::{Boxed, Items};
 use std::alloc::Global;
 
-fn subst_term(
-    alloc: Global,
-    put: &[Put],
-    scope: &[Binder],
-    term: &Term,
-) -> Result<Term, SubstFault>
+fn subst_term(alloc: Global, put: &[Put], scope: &[Binder], term: &Term) -> Result<Term, SubstFault>
     requires { IsReady (map put_in put.now) (before_of scope.now) (after_of scope.now) (term_of term.now) }
     ensures ok { IfOk result (λ put_term. IsNormalPut (map put_in put.now) (before_of scope.now) (after_of scope.now) (term_of term.now) (term_of put_term)) }
     ensures err { IfErr result (λ fault. fault ≡ cause.TooLarge → Fits (map put_in put.now) (before_of scope.now) (term_of term.now) → ⊥) }
@@ -82,12 +77,7 @@ fn subst_limits(
     Ok(all)
 }
 
-fn subst_ref(
-    alloc: Global,
-    put: &[Put],
-    scope: &[Binder],
-    from: &Ref,
-) -> Result<Ref, SubstFault>
+fn subst_ref(alloc: Global, put: &[Put], scope: &[Binder], from: &Ref) -> Result<Ref, SubstFault>
     requires { All (IsReady (map put_in put.now) (before_of scope.now) (after_of scope.now)) (map term_of from.now.args) }
     ensures ok { IfOk result (λ put_ref. IsRefLike (IsNormalPut (map put_in put.now)) (before_of scope.now) (after_of scope.now) (ref_of from.now) (ref_of put_ref)) }
     ensures err { IfErr result (λ fault. fault ≡ cause.TooLarge → All (Fits (map put_in put.now) (before_of scope.now)) (map term_of from.now.args) → ⊥) }
@@ -245,12 +235,7 @@ fn subst_res(
 /// The resource in which, at once, each free occurrence of one of the names is replaced by the term
 /// at its place and every term is in normal form. Of a name that stands twice the first place counts.
 /// A binder that would catch a name of a term that is put in has a new name: its own, with dots.
-pub fn subst(
-    alloc: Global,
-    res: &Res,
-    names: &Idents,
-    by: &Terms,
-) -> Result<Res, SubstFault>
+pub fn subst(alloc: Global, res: &Res, names: &Idents, by: &Terms) -> Result<Res, SubstFault>
     requires { length names.now ≡ length by.now }
     ensures ok { IfOk result (λ put. IsSubst (put_of names.now by.now) (res_of res.now) (res_of put)) }
     ensures err { IfErr result (λ fault. fault ≡ cause.TooLarge → AllFit (put_of names.now by.now) (terms_of_res [] (res_of res.now)) → ⊥) }

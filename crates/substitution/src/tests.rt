@@ -1,6 +1,6 @@
-use crate::{SubstFault, subst_terms};
+use crate::{SubstFault, subst, subst_terms};
 use chan_base::Memory;
-use chan_syntax::{Ident, Idents, Part, Span, Term, Terms};
+use chan_syntax::{Bound, Ident, Idents, Part, Res, Shape, Span, Term, Terms};
 use sqlite_items::Items;
 use std::alloc::Global;
 use std::test::Fail;
@@ -119,5 +119,76 @@ fn a_number_past_64_bits_is_too_large(rt: HostRuntime) -> Result<(), Fail> {
     )?;
     let second = term(alloc, part(alloc, 0, b"")?, part(alloc, 0, b"")?)?;
     assert!(rt; matches!(put_in(alloc, first, second), Err(SubstFault::TooLarge)));
+    Ok(())
+}
+
+/// An integer `a`, and the sum `a + b`.
+fn bound_sum(alloc: Global) -> Result<Res, Memory> {
+    let mut names = Items::new(alloc);
+    names.push(Ident::from_slice(alloc, b"a")?)?;
+    let mut names_spans = Items::new(alloc);
+    names_spans.push(NOWHERE)?;
+    let sum = term(alloc, part(alloc, 1, b"a")?, part(alloc, 1, b"b")?)?;
+    Ok(Res {
+        bound: Bound {
+            names,
+            names_spans,
+            limits: Items::new(alloc),
+        },
+        shape: Shape::Int(sum),
+    })
+}
+
+/// An integer `a`, and the sum `a + b`, with these terms for `a` and `b`.
+fn put_in_bound_sum(alloc: Global, first: Term, second: Term) -> Result<Res, SubstFault> {
+    let names = names(alloc)?;
+    let by = two(alloc, first, second)?;
+    if names.len() != by.len() {
+        return Err(SubstFault::Memory);
+    }
+    subst(alloc, &bound_sum(alloc)?, &names, &by)
+}
+
+fn is_named(name: &Ident, spelling: &[u8]) -> bool {
+    name.as_slice() == spelling
+}
+
+fn binds(res: &Res, spelling: &[u8]) -> bool {
+    match res.bound.names.get(0) {
+        Some(name) => is_named(name, spelling),
+        None => false,
+    }
+}
+
+fn part_is_named(part: &Part, spelling: &[u8]) -> bool {
+    match &part.name {
+        Some(name) => is_named(name, spelling),
+        None => false,
+    }
+}
+
+fn counts(res: &Res, index: usize, spelling: &[u8]) -> bool {
+    match &res.shape {
+        Shape::Int(term) => match term.parts.get(index) {
+            Some(part) => part_is_named(part, spelling),
+            None => false,
+        },
+        _ => false,
+    }
+}
+
+#[test]
+fn a_binder_that_would_catch_a_name_is_renamed(rt: HostRuntime) -> Result<(), Fail> {
+    let alloc = rt.alloc();
+    let number = term(alloc, part(alloc, 7, b"")?, part(alloc, 0, b"")?)?;
+    let name = term(alloc, part(alloc, 1, b"a")?, part(alloc, 0, b"")?)?;
+    match put_in_bound_sum(alloc, number, name) {
+        Ok(res) => {
+            assert!(rt; binds(&res, b"a."));
+            assert!(rt; counts(&res, 0, b"a"));
+            assert!(rt; counts(&res, 1, b"a."));
+        }
+        Err(_) => assert!(rt; false),
+    }
     Ok(())
 }

@@ -1,4 +1,4 @@
-use Rattle.std.proofs.Common.{◌≡◌, Some, None, find, option_copied, sym, ◌∙◌, ap}
+use Rattle.std.proofs.Common.{option_copied, sym, ◌∙◌, ap}
 use Rattle.substitution.proofs.Lookups.{names_found, names_absent}
 use Rattle.substitution.proofs.catching.replaces_naming.Goals as goal
 

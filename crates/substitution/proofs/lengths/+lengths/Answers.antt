@@ -1,4 +1,4 @@
-use Rattle.std.proofs.Common.{◌≤◌, map, arith, sym, ◌∙◌, ap, subst}
+use Rattle.std.proofs.Common.{map, arith, sym, ◌∙◌, ap, subst}
 use Rattle.substitution.proofs.Shapes.{pair_of, sum_of}
 use Rattle.chan_syntax.specs.Reading.{limit_of, res_of, shape_of}
 use Rattle.linear_forms.specs.Replacing.{IsShortShape}

@@ -1,4 +1,4 @@
-use Rattle.std.proofs.Common.{◌≤◌, sym, arith}
+use Rattle.std.proofs.Common.{sym}
 use Rattle.std.proofs.lemmas.List.{take_all}
 use Rattle.chan_syntax.specs.Reading.{term_of}
 use Rattle.linear_forms.specs.Normal.{names_of}

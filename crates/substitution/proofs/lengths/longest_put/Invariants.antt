@@ -1,4 +1,4 @@
-use Rattle.std.proofs.Common.{◌≤◌, All, take}
+use Rattle.std.proofs.Common.{All, take}
 use Rattle.chan_syntax.specs.Reading.{term_of}
 use Rattle.linear_forms.specs.Replacing.{IsShortTerm}
 use Rattle.substitution.proofs.lengths.longest_put.Given as goal

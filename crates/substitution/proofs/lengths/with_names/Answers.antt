@@ -1,4 +1,4 @@
-use Rattle.std.proofs.Common.{◌≤◌, sym, arith}
+use Rattle.std.proofs.Common.{sym, arith}
 use Rattle.linear_forms.specs.Replacing.{IsShort}
 use Rattle.linear_forms.proofs.Shorts.{all_more}
 use Rattle.substitution.proofs.lengths.with_names.Goals as goal

@@ -1,4 +1,4 @@
-use Rattle.std.proofs.Common.{◌≡◌, ◌≤◌, All, option_to_list, sym, arith}
+use Rattle.std.proofs.Common.{All, option_to_list, sym, arith}
 use Rattle.std.proofs.lemmas.List.{take_all}
 use Rattle.chan_syntax.specs.Reading.{part_of}
 use Rattle.linear_forms.specs.Replacing.{IsShort}

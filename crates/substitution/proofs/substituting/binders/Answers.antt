@@ -1,8 +1,7 @@
-use Rattle.std.proofs.Common.{◌≡◌, ◌+◌, ◌-◌, ◌≤◌, true, false, suc, length, map, sym, arith}
+use Rattle.std.proofs.Common.{◌≡◌, ◌+◌, ◌-◌, true, suc, length, map, sym, arith}
 use Rattle.chan_syntax.specs.Reading.{res_of}
-use Rattle.core_language.specs.Names.{Ident}
 use Rattle.linear_forms.specs.Substitution.{IsRenamed, terms_of_res}
-use Rattle.linear_forms.specs.Replacing.{IsShort, IsSafe}
+use Rattle.linear_forms.specs.Replacing.{IsShort}
 use Rattle.linear_forms.proofs.Rebuilt.{binder_safe, binder_renamed}
 use Rattle.substitution.specs.Scopes.{put_in, before_of}
 use Rattle.substitution.proofs.Groups.{before_next, safe_next, renamed_next}

@@ -1,4 +1,4 @@
-use Rattle.std.proofs.Common.{◌≡◌, map, sym}
+use Rattle.std.proofs.Common.{map, sym}
 use Rattle.std.proofs.lemmas.Result.{err_from_is_err_and}
 use Rattle.chan_syntax.specs.Reading.{limit_of}
 use Rattle.linear_forms.specs.Substitution.{IsNormalPut, IsLimitLike}
