@@ -12,7 +12,7 @@ use Rattle.farkas_check.proofs.Products.{distribute, distribute_right, times_tim
 use Rattle.linear_forms.specs.Terms.{IntVar, IntNames, times_of, counted, sum_of, named, meaning_at, by_place, term_value, unit_at, coefficient_of, constant_of, normal_form}
 
 -- sums of parts are linear in what names and bare numbers count
-sum_of-cong : (u : ℤ) (a b : Ident → ℤ) (t : Term) → ((x : Ident) → a x ≡ b x) → sum_of u a t ≡ sum_of u b t
+pub sum_of-cong : (u : ℤ) (a b : Ident → ℤ) (t : Term) → ((x : Ident) → a x ≡ b x) → sum_of u a t ≡ sum_of u b t
 sum_of-cong u a b [] h = refl
 sum_of-cong u a b (p ∷ ps) h = rw (one p.name, sum_of-cong u a b ps h)
   where

@@ -1,3 +1,5 @@
 pub mod Terms
 pub mod Normal
+pub mod NormalTerms
 pub mod Substitution
+pub mod Replacing

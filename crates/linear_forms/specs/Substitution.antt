@@ -1,10 +1,15 @@
 -- Resources in which terms are put in for names, up to the names of binders.
-use Rattle.std.specs.Prelude.{◌≡◌, ℕ, suc, ℤ, pos, if◌then◌else◌, List, [], ◌∷◌, ◌++◌, length, Option, Some, None, option_map}
+use Rattle.std.specs.Prelude.{◌≡◌, ℕ, suc, nat_eq, ℤ, pos, true, false, Bool, ◌&&◌, if◌then◌else◌, List, [], ◌∷◌, ◌++◌, All, map, flat_map, Option, Some, None, option_map, is_none}
+use Rattle.std.specs.List.{list_any}
 use Rattle.core_language.specs.Names.{Ident, same}
 use Rattle.core_language.specs.Terms.{Term, Limit}
 use Rattle.core_language.specs.Resources.{Ref, Shape, Res}
 use Rattle.core_language.specs.Resources as resource
 use Rattle.linear_forms.specs.Terms.{IntVar, sum_of, named}
+use Rattle.linear_forms.specs.Normal.{fits, names_of}
+use Rattle.linear_forms.specs.NormalTerms.{IsNormal}
+
+-- ---- terms under binders
 
 -- a variable of a term under binders: a free one by its name, a bound one counted outwards
 pub data Var : Type 0 where
@@ -20,14 +25,69 @@ abbrev pub at_place : (Var → ℤ) → ℤ → Option ℕ → ℤ
 at_place at free None = free
 at_place at free (Some i) = at (Inside i)
 
--- the value of a term under binders, where terms over free names are put in for the names of a list
-abbrev pub value_under : List Ident → List IntVar → (Var → ℤ) → Term → ℤ
-value_under binders put at term =
-    sum_of (pos 1) (λ x. at_place at (named put (pos 1) (λ y. at (Free y)) x) (place_of binders x)) term
+-- the sum of a term under binders, where terms over free names are put in for the names of a list
+abbrev pub sum_under : List Ident → List IntVar → ℤ → (Var → ℤ) → Term → ℤ
+sum_under binders put unit at term =
+    sum_of unit (λ x. at_place at (named put unit (λ y. at (Free y)) x) (place_of binders x)) term
 
 -- the second term is the first with the terms put in: they have one value everywhere
 abbrev pub IsPutTerm : List IntVar → (before after : List Ident) → Term → Term → Type 0
-IsPutTerm put before after t u = (at : Var → ℤ) → value_under after [] at u ≡ value_under before put at t
+IsPutTerm put before after t u = (at : Var → ℤ) → sum_under after [] (pos 1) at u ≡ sum_under before put (pos 1) at t
+
+abbrev pub same_var : Var → Var → Bool
+same_var (Free x) (Free y) = same x y
+same_var (Inside i) (Inside j) = nat_eq i j
+same_var _ _ = false
+
+abbrev pub one_var : Var → Var → ℤ
+one_var v w = if same_var v w then pos 1 else pos 0
+
+-- with the terms put in, each variable counts so often that 64 bits hold it, and they hold the constant
+pub record Fits (put : List IntVar) (binders : List Ident) (term : Term) : Type 0 where
+  pub counts : (v : Var) → fits (sum_under binders put (pos 0) (one_var v) term) ≡ true
+  pub constant : fits (sum_under binders put (pos 1) (λ v. pos 0) term) ≡ true
+
+-- ---- the terms of a resource
+
+-- a term, and the binders around it, the innermost first
+pub record Scoped : Type 0 where
+  pub binders : List Ident
+  pub term : Term
+
+abbrev pub scoped : List Ident → List Term → List Scoped
+scoped binders terms = map (λ t. record { binders = binders; term = t }) terms
+
+abbrev pub terms_of_limit : Limit → List Term
+terms_of_limit limit = limit.left ∷ limit.right ∷ []
+
+abbrev mutual
+  pub terms_of_shape : List Ident → Shape → List Scoped
+  terms_of_shape binders resource.Unit = []
+  terms_of_shape binders (resource.Int t) = scoped binders (t ∷ [])
+  terms_of_shape binders (resource.End r) = scoped binders r.args
+  terms_of_shape binders (resource.Pair a b) = terms_of_res binders a ++ terms_of_res binders b
+  terms_of_shape binders (resource.Sum a b) = terms_of_res binders a ++ terms_of_res binders b
+
+  pub terms_of_res : List Ident → Res → List Scoped
+  terms_of_res binders (resource.Binds b s) =
+      scoped (b.names ++ binders) (flat_map terms_of_limit b.limits) ++ terms_of_shape (b.names ++ binders) s
+
+-- ---- binders that would catch a name
+
+-- the term at a name of the list, if one stands there, names y
+abbrev pub put_names : List IntVar → Ident → Ident → Bool
+put_names [] x y = false
+put_names (v ∷ vs) x y = if same v.name x then list_any (λ z. same z y) (names_of v.term) else put_names vs x y
+
+-- a free name of the term is one for which a term is put in that names y
+abbrev pub puts : List IntVar → Ident → Scoped → Bool
+puts put y s = list_any (λ x. is_none (place_of s.binders x) && put_names put x y) (names_of s.term)
+
+-- a binder of the resource with this name would catch a name of a term that is put in
+abbrev pub catches : List IntVar → List Ident → Res → Ident → Bool
+catches put binders res y = list_any (puts put y) (terms_of_res binders res)
+
+-- ---- two resources
 
 -- two lists, item by item
 abbrev pub Each : {X : Type 0} → (X → X → Type 0) → List X → List X → Type 0
@@ -36,29 +96,66 @@ Each R [] (y ∷ ys) = ⊥
 Each R (x ∷ xs) [] = ⊥
 Each R (x ∷ xs) (y ∷ ys) = R x y × Each R xs ys
 
-pub record IsPutLimit (put : List IntVar) (before after : List Ident) (l m : Limit) : Type 0 where
-  pub left : IsPutTerm put before after l.left m.left
-  pub relation : l.relation ≡ m.relation
-  pub right : IsPutTerm put before after l.right m.right
+-- two names of binders, of a resource under binders
+abbrev pub OnNames : Type 1
+OnNames = List Ident → Res → Ident → Ident → Type 0
 
-pub record IsPutRef (put : List IntVar) (before after : List Ident) (r s : Ref) : Type 0 where
+-- two terms, each under binders of its own
+abbrev pub OnTerms : Type 1
+OnTerms = (before after : List Ident) → Term → Term → Type 0
+
+pub record IsLimitLike (T : OnTerms) (before after : List Ident) (l m : Limit) : Type 0 where
+  pub left : T before after l.left m.left
+  pub relation : l.relation ≡ m.relation
+  pub right : T before after l.right m.right
+
+pub record IsRefLike (T : OnTerms) (before after : List Ident) (r s : Ref) : Type 0 where
   pub dual : r.dual ≡ s.dual
   pub name : r.name ≡ s.name
-  pub args : Each (IsPutTerm put before after) r.args s.args
+  pub args : Each (T before after) r.args s.args
 
+-- two resources of one form, whose binders and terms are related one by one
 abbrev mutual
-  pub IsPutShape : List IntVar → (before after : List Ident) → Shape → Shape → Type 0
-  IsPutShape put before after resource.Unit resource.Unit = Unit {0}
-  IsPutShape put before after (resource.Int t) (resource.Int u) = IsPutTerm put before after t u
-  IsPutShape put before after (resource.End r) (resource.End s) = IsPutRef put before after r s
-  IsPutShape put before after (resource.Pair a b) (resource.Pair c d) = IsPutRes put before after a c × IsPutRes put before after b d
-  IsPutShape put before after (resource.Sum a b) (resource.Sum c d) = IsPutRes put before after a c × IsPutRes put before after b d
-  IsPutShape put before after _ _ = ⊥
+  pub IsShapeLike : OnNames → OnTerms → (before after : List Ident) → Shape → Shape → Type 0
+  IsShapeLike N T before after resource.Unit resource.Unit = Unit {0}
+  IsShapeLike N T before after (resource.Int t) (resource.Int u) = T before after t u
+  IsShapeLike N T before after (resource.End r) (resource.End s) = IsRefLike T before after r s
+  IsShapeLike N T before after (resource.Pair a b) (resource.Pair c d) = IsResLike N T before after a c × IsResLike N T before after b d
+  IsShapeLike N T before after (resource.Sum a b) (resource.Sum c d) = IsResLike N T before after a c × IsResLike N T before after b d
+  IsShapeLike N T before after _ _ = ⊥
 
-  pub IsPutRes : List IntVar → (before after : List Ident) → Res → Res → Type 0
-  IsPutRes put before after (resource.Binds b s) (resource.Binds c t) =
-      (length b.names ≡ length c.names) × Each (IsPutLimit put (b.names ++ before) (c.names ++ after)) b.limits c.limits × IsPutShape put (b.names ++ before) (c.names ++ after) s t
+  pub IsResLike : OnNames → OnTerms → (before after : List Ident) → Res → Res → Type 0
+  IsResLike N T before after (resource.Binds b s) (resource.Binds c t) =
+      Each (N before (resource.Binds b s)) b.names c.names
+      × Each (IsLimitLike T (b.names ++ before) (c.names ++ after)) b.limits c.limits
+      × IsShapeLike N T (b.names ++ before) (c.names ++ after) s t
+
+abbrev pub AnyNames : OnNames
+AnyNames before res y z = Unit {0}
+
+-- the second resource is the first with the terms put in, up to the names of binders
+abbrev pub IsPutRes : List IntVar → (before after : List Ident) → Res → Res → Type 0
+IsPutRes put = IsResLike AnyNames (IsPutTerm put)
 
 -- one resource up to the names of binders, and up to how its terms are written
 abbrev pub IsSameRes : Res → Res → Type 0
 IsSameRes = IsPutRes [] [] []
+
+-- a binder has another name exactly where it would catch a name of a term that is put in
+pub record IsRenamed (put : List IntVar) (before : List Ident) (res : Res) (y z : Ident) : Type 0 where
+  pub kept : catches put before res y ≡ false → z ≡ y
+  pub renamed : catches put before res y ≡ true → z ≡ y → ⊥
+
+-- a term with the terms put in, in normal form
+pub record IsNormalPut (put : List IntVar) (before after : List Ident) (t u : Term) : Type 0 where
+  pub value : IsPutTerm put before after t u
+  pub normal : IsNormal u
+  pub fits : Fits put before t
+
+-- a resource with the terms put in at once
+abbrev pub IsSubst : List IntVar → Res → Res → Type 0
+IsSubst put = IsResLike (IsRenamed put) (IsNormalPut put) [] []
+
+-- each normal form has numbers of 64 bits
+abbrev pub AllFit : List IntVar → List Scoped → Type 0
+AllFit put terms = All (λ s. Fits put s.binders s.term) terms

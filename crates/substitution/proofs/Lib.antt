@@ -1,0 +1,10 @@
+pub mod Lookups
+pub mod Added
+pub mod Lists
+pub mod ReadyTerms
+pub mod Entries
+pub mod EachNext
+pub mod Groups
+pub mod Inside
+pub mod Forms
+pub mod Shapes

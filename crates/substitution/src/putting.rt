@@ -1,0 +1,120 @@
+//! Terms with terms put in, in normal form.
+ghost use Rattle.std.specs.Prelude.{◌≡◌, ◌+◌, ◌≤◌, ◌<◌, ◌^◌, ◌++◌, ◌∷◌, [], ℕ, ◌*ℤ◌, unsigned_abs, map, Some, None, OnOk, IfOk, IfErr};
+ghost use Rattle.core_language.specs.Terms.{Term as Sum};
+ghost use Rattle.chan_syntax.specs.Reading.{part_of, term_of};
+ghost use Rattle.linear_forms.specs.Terms.{times_of};
+ghost use Rattle.linear_forms.specs.Replacing.{counting, scaled, replaced_name, replaced_part, replaced};
+ghost use Rattle.substitution.specs.Sums.{HasSums, IsWithin};
+ghost use Rattle.substitution.specs.Scopes.{put_in, before_of, after_of};
+
+use crate::scope::{Binder, Put, new_name, put_named};
+use crate::summands::Summands;
+use chan_base::Memory;
+use chan_syntax::{Ident, Part};
+use std::alloc::Global;
+
+/// How often a part counts.
+fn times(part: &Part) -> i128
+    ensures value { result ≡ times_of (part_of part.now) }
+    ensures bound { unsigned_abs result ≤ 2 ^ 63 }
+{
+    let factor = i128::from(part.factor);
+    if part.negative { -factor } else { factor }
+}
+
+/// Adds a part some times.
+fn add_part(alloc: Global, sums: &mut Summands, weight: i128, part: &Part) -> Result<(), Memory>
+    requires weight { unsigned_abs weight ≤ 2 ^ 63 }
+    requires within { IsWithin (2 ^ 247) sums.old }
+    ensures sums { OnOk result ((sum : Sum) → HasSums sums.old sum → HasSums sums.new (sum ++ counting (weight *ℤ times_of (part_of part.now)) part.now.name ∷ [])) }
+    ensures within { OnOk result ((size : ℕ) → IsWithin size sums.old → IsWithin (size + 2 ^ 126) sums.new) }
+{
+    match &part.name {
+        Some(name) => sums.add_name(alloc, name, part.name_span, weight, times(part)),
+        None => {
+            sums.add_number(weight, times(part));
+            Ok(())
+        }
+    }
+}
+
+/// Adds a term some times.
+fn add_term(alloc: Global, sums: &mut Summands, weight: i128, parts: &[Part]) -> Result<(), Memory>
+    requires weight { unsigned_abs weight ≤ 2 ^ 63 }
+    requires within { IsWithin (2 ^ 246) sums.old }
+    ensures sums { OnOk result ((sum : Sum) → HasSums sums.old sum → HasSums sums.new (sum ++ scaled weight (map part_of parts.now))) }
+    ensures within { OnOk result ((size : ℕ) → IsWithin size sums.old → IsWithin (size + 2 ^ 185) sums.new) }
+{
+    for part in parts {
+        add_part(alloc, sums, weight, part)?;
+    }
+    Ok(())
+}
+
+/// Adds a name as often as a part counts it.
+fn add_once(alloc: Global, sums: &mut Summands, part: &Part, name: &Ident) -> Result<(), Memory>
+    requires { IsWithin (2 ^ 246) sums.old }
+    ensures sums { OnOk result ((sum : Sum) → HasSums sums.old sum → HasSums sums.new (sum ++ counting (times_of (part_of part.now)) (Some name.now) ∷ [])) }
+    ensures within { OnOk result ((size : ℕ) → IsWithin size sums.old → IsWithin (size + 2 ^ 185) sums.new) }
+{
+    sums.add_name(alloc, name, part.name_span, 1, times(part))?;
+    Ok(())
+}
+
+/// Adds what stands for a name, as often as a part counts it.
+fn add_named(
+    alloc: Global,
+    scope: &[Binder],
+    put: &[Put],
+    sums: &mut Summands,
+    part: &Part,
+    name: &Ident,
+) -> Result<(), Memory>
+    requires { IsWithin (2 ^ 246) sums.old }
+    ensures sums { OnOk result ((sum : Sum) → HasSums sums.old sum → HasSums sums.new (sum ++ replaced_name (before_of scope.now) (after_of scope.now) (map put_in put.now) (times_of (part_of part.now)) (Some name.now))) }
+    ensures within { OnOk result ((size : ℕ) → IsWithin size sums.old → IsWithin (size + 2 ^ 185) sums.new) }
+{
+    match new_name(scope, name) {
+        Some(made) => add_once(alloc, sums, part, made),
+        None => match put_named(put, name) {
+            Some(put) => add_term(alloc, sums, times(part), put.term.parts.as_slice()),
+            None => add_once(alloc, sums, part, name),
+        },
+    }
+}
+
+fn add_replaced(
+    alloc: Global,
+    scope: &[Binder],
+    put: &[Put],
+    sums: &mut Summands,
+    part: &Part,
+) -> Result<(), Memory>
+    requires { IsWithin (2 ^ 246) sums.old }
+    ensures sums { OnOk result ((sum : Sum) → HasSums sums.old sum → HasSums sums.new (sum ++ replaced_part (before_of scope.now) (after_of scope.now) (map put_in put.now) (part_of part.now))) }
+    ensures within { OnOk result ((size : ℕ) → IsWithin size sums.old → IsWithin (size + 2 ^ 185) sums.new) }
+{
+    match &part.name {
+        Some(name) => add_named(alloc, scope, put, sums, part, name),
+        None => {
+            sums.add_number(1, times(part));
+            Ok(())
+        }
+    }
+}
+
+/// The sums of a term in which terms are put in and binders have their new names.
+pub(crate) fn sums_of(
+    alloc: Global,
+    scope: &[Binder],
+    put: &[Put],
+    parts: &[Part],
+) -> Result<Summands, Memory>
+    ensures { IfOk result (λ sums. HasSums sums (replaced (before_of scope.now) (after_of scope.now) (map put_in put.now) (map part_of parts.now))) }
+{
+    let mut sums = Summands::new(alloc);
+    for part in parts {
+        add_replaced(alloc, scope, put, &mut sums, part)?;
+    }
+    Ok(sums)
+}

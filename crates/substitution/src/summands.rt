@@ -1,0 +1,83 @@
+//! Sums of what names and bare numbers count.
+ghost use Rattle.std.specs.Prelude.{◌≡◌, ◌+◌, ◌≤◌, ◌^◌, ◌++◌, ◌∷◌, [], ℕ, ◌*ℤ◌, unsigned_abs, Some, None, false, OnOk};
+ghost use Rattle.core_language.specs.Names.{Ident as Name, same};
+ghost use Rattle.core_language.specs.Terms.{Term as Sum};
+ghost use Rattle.linear_forms.specs.Replacing.{counting};
+ghost use Rattle.substitution.specs.Sums.{sum_at, HasSums, IsWithin};
+
+use chan_base::Memory;
+use chan_syntax::{Ident, Span};
+use std::alloc::Global;
+use std::collections::BTreeMap;
+use wide_sums::Wide;
+
+/// The sum of a name, and where it stood first.
+#[derive(Drop)]
+pub(crate) struct Summand {
+    pub sum: Wide,
+    pub span: Option<Span>,
+}
+
+/// A sum of names and a bare number.
+#[derive(Drop)]
+pub(crate) struct Summands {
+    pub named: BTreeMap<Ident, Summand>,
+    pub constant: Wide,
+}
+
+impl Summands {
+    pub fn new(alloc: Global) -> Summands
+        ensures sums { HasSums result [] }
+        ensures within { IsWithin 0 result }
+    {
+        Summands {
+            named: BTreeMap::new(alloc),
+            constant: Wide::zero(),
+        }
+    }
+
+    pub fn add_number(&mut self, weight: i128, times: i128)
+        requires weight { unsigned_abs weight ≤ 2 ^ 63 }
+        requires times { unsigned_abs times ≤ 2 ^ 63 }
+        requires within { IsWithin (2 ^ 247) self.old }
+        ensures sums { (sum : Sum) → HasSums self.old sum → HasSums self.new (sum ++ counting (weight *ℤ times) None ∷ []) }
+        ensures within { (size : ℕ) → IsWithin size self.old → IsWithin (size + 2 ^ 126) self.new }
+    {
+        self.constant.add_product(weight, times);
+    }
+
+    /// The summand of a name, which is taken out.
+    fn take(&mut self, name: &Ident, span: Option<Span>) -> Summand
+        ensures sum { result.sum ≡ sum_at self.old name.now }
+        ensures others { (x : Name) → same name.now x ≡ false → sum_at self.new x ≡ sum_at self.old x }
+        ensures constant { self.new.constant ≡ self.old.constant }
+    {
+        match self.named.remove(name) {
+            Some(summand) => summand,
+            None => Summand {
+                sum: Wide::zero(),
+                span,
+            },
+        }
+    }
+
+    pub fn add_name(
+        &mut self,
+        alloc: Global,
+        name: &Ident,
+        span: Option<Span>,
+        weight: i128,
+        times: i128,
+    ) -> Result<(), Memory>
+        requires weight { unsigned_abs weight ≤ 2 ^ 63 }
+        requires times { unsigned_abs times ≤ 2 ^ 63 }
+        requires within { IsWithin (2 ^ 247) self.old }
+        ensures sums { OnOk result ((sum : Sum) → HasSums self.old sum → HasSums self.new (sum ++ counting (weight *ℤ times) (Some name.now) ∷ [])) }
+        ensures within { OnOk result ((size : ℕ) → IsWithin size self.old → IsWithin (size + 2 ^ 126) self.new) }
+    {
+        let mut summand = self.take(name, span);
+        summand.sum.add_product(weight, times);
+        self.named.insert(name.copy(alloc)?, summand)?;
+        Ok(())
+    }
+}
