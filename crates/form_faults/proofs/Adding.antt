@@ -1,8 +1,8 @@
 -- Sums to which a part is added.
-use Rattle.std.proofs.Common.{◌≡◌, ℕ, suc, FitsSigned, ◌-◌, ◌+◌, ◌<◌, ◌≤◌, List, [], ◌∷◌, length, map, drop, drop-cons, get_or, subst, ◌^◌, ℤ, pos, ◌+ℤ◌, ◌*ℤ◌, Bool, true, false, if◌then◌else◌, cond, Option, Some, None, unwrap_or, unsigned_abs, refl, sym, ap, ◌∙◌, arith, ◌⊎◌, inl, inr}
+use Rattle.std.proofs.Common.{◌≡◌, ℕ, suc, FitsSigned, ◌-◌, ◌+◌, ◌<◌, ◌≤◌, List, ◌∷◌, length, map, drop, drop-cons, get_or, subst, ◌^◌, ℤ, pos, ◌+ℤ◌, ◌*ℤ◌, Bool, true, false, if◌then◌else◌, Option, Some, None, unwrap_or, unsigned_abs, refl, sym, ap, ◌∙◌, arith, ◌⊎◌, inl, inr}
 use Rattle.std.specs.Cmp.Lexicographic.{bytes_decides, slice_cmp}
 use Rattle.std.specs.Ordering.{nat_cmp}
-use Rattle.std.specs.BTreeMap.{get, is_at, Updates}
+use Rattle.std.specs.BTreeMap.{get, Updates}
 use Rattle.std.specs.Int.{w128}
 use Rattle.std.proofs.lemmas.Int.{ints, fits_signed_from_abs}
 use Rattle.std.proofs.lemmas.Map.Text.{is_eq-slice_cmp}

@@ -1,10 +1,10 @@
 -- `least` gives the first fault of a list.
-use Rattle.std.proofs.Common.{◌≡◌, Bool, true, false, if◌then◌else◌, ◌&&◌, ◌||◌, List, [], ◌∷◌, ◌++◌, Option, Some, None, refl, sym, ap, ◌∙◌, arith, ◌⊎◌, inl, inr}
+use Rattle.std.proofs.Common.{◌≡◌, Bool, true, false, if◌then◌else◌, ◌&&◌, ◌||◌, List, [], ◌∷◌, Some, None, refl, sym, ap, ◌∙◌, arith, ◌⊎◌, inl, inr}
 use Rattle.std.specs.List.{list_all, list_any}
 use Rattle.std.proofs.lemmas.Option.{none-some, same_Some}
 use Rattle.std.proofs.lemmas.Bool.Decides.{nat_tests}
 use Rattle.form_faults.specs.declared.faults.Ill.{Ill}
-use Rattle.form_faults.specs.Faults.{is_sooner, sooner_of, least, IsFirst}
+use Rattle.form_faults.specs.Faults.{is_sooner, least, IsFirst}
 
 -- none of a list is sooner, and the first of a list, element by element
 abbrev NoneSooner : Ill → List Ill → Type 0

@@ -1,6 +1,5 @@
 -- The faults of shapes, resources, protocols and headers.
-use Rattle.std.specs.Prelude.{ℕ, suc, max, Bool, true, ◌&&◌, nat_le, if◌then◌else◌, length, map, List, [], ◌∷◌, ◌++◌, Option, Some, None}
-use Rattle.core_language.specs.Names.{Ident}
+use Rattle.std.specs.Prelude.{ℕ, suc, max, Bool, true, ◌&&◌, nat_le, if◌then◌else◌, map, List, [], ◌∷◌, ◌++◌, Option, Some, None}
 use Rattle.chan_syntax.specs.declared.identifiers.Span.{Span}
 use Rattle.chan_syntax.specs.declared.linear.Term.{Term}
 use Rattle.chan_syntax.specs.declared.linear.Bound.{Bound}

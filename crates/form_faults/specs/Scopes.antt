@@ -1,5 +1,5 @@
 -- The names in scope, what they stand for, and the faults of a name that is bound or used.
-use Rattle.std.specs.Prelude.{ℕ, Bool, true, false, ◌||◌, is_some, if◌then◌else◌, nat_eq, List, [], ◌∷◌, ◌++◌, map, Option, Some, None, unwrap_or}
+use Rattle.std.specs.Prelude.{ℕ, Bool, true, false, is_some, if◌then◌else◌, nat_eq, List, [], ◌∷◌, ◌++◌, map, Option, Some, None}
 use Rattle.std.specs.List.{list_any}
 use Rattle.core_language.specs.Names.{Ident, same}
 use Rattle.chan_syntax.specs.declared.identifiers.Span.{Span}

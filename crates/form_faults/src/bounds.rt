@@ -49,9 +49,8 @@ pub fn check_names(
     most: usize,
     names: &[Ident],
     spans: &[Span],
-    sort: Sort,
 )
-    ensures { first.new ≡ least first.old (names_past most (binders sort names.now spans.now)) }
+    ensures { first.new ≡ least first.old (names_past most (binders Sort.Integer names.now spans.now)) }
 {
     if most < names.len() {
         note(alloc, first, IllKind::TooMany, span_at(spans, most));
@@ -82,7 +81,7 @@ pub fn bind_bound(
     let limits = bound.limits.as_slice();
     let most = most_of(names);
     bind_names(alloc, first, scope, Sort::Integer, names, spans)?;
-    check_names(alloc, first, most, names, spans, Sort::Integer);
+    check_names(alloc, first, most, names, spans);
     check_limits(alloc, first, scope, limits)?;
     check_count(alloc, first, most, limits);
     Ok(())

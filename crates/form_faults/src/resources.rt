@@ -184,6 +184,6 @@ pub fn check_proto(
     let mut scope = Scope::new(alloc);
     note_deep(alloc, first, are_shallow(&proto.equation), proto.name_span);
     bind_names(alloc, first, &mut scope, Sort::Integer, names, spans)?;
-    check_names(alloc, first, 16, names, spans, Sort::Integer);
+    check_names(alloc, first, 16, names, spans);
     check_equation(alloc, first, protos, &mut scope, &proto.equation)
 }

@@ -1,5 +1,4 @@
-use Rattle.std.proofs.Common.{◌≡◌, arith}
-use Rattle.std.proofs.lemmas.Grind.{common_steps}
+use Rattle.std.proofs.Common.{arith}
 use Rattle.form_faults.specs.Sums.{difference_in}
 use Rattle.form_faults.proofs.Adding.{opened_at}
 use Rattle.form_faults.proofs.Rows.{narrow_step, narrow_end}

@@ -1,4 +1,4 @@
-use Rattle.std.proofs.Common.{◌≡◌, ◌-ℤ◌, drop, map}
+use Rattle.std.proofs.Common.{◌≡◌, drop, map}
 use Rattle.chan_syntax.specs.Reading.{part_of}
 use Rattle.form_faults.specs.Numbers.{are_narrow}
 use Rattle.form_faults.specs.Sums.{count_in}

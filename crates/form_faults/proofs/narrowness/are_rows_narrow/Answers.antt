@@ -1,4 +1,4 @@
-use Rattle.std.proofs.Common.{◌≡◌, ◌∙◌, arith}
+use Rattle.std.proofs.Common.{◌∙◌, arith}
 use Rattle.form_faults.proofs.Rows.{at_most, below, equal}
 use Rattle.form_faults.proofs.narrowness.are_rows_narrow.Goals as goal
 

@@ -1,4 +1,4 @@
-use Rattle.std.proofs.Common.{◌≡◌, ◌&&◌, ◌-ℤ◌, ◌+ℤ◌, pos, sym, ap, ◌∙◌}
+use Rattle.std.proofs.Common.{◌&&◌, ◌-ℤ◌, sym, ap, ◌∙◌}
 use Rattle.linear_forms.specs.Normal.{fits}
 use Rattle.chan_syntax.specs.Reading.{term_of}
 use Rattle.form_faults.proofs.Rows.{row}

@@ -1,4 +1,4 @@
-use Rattle.std.proofs.Common.{◌≡◌, ◌&&◌, List, map, sym, ap, ◌∙◌}
+use Rattle.std.proofs.Common.{◌&&◌, List, map, sym, ap, ◌∙◌}
 use Rattle.linear_forms.specs.Normal.{fits}
 use Rattle.chan_syntax.specs.declared.linear.Part.{Part}
 use Rattle.chan_syntax.specs.Reading.{part_of, term_of}

@@ -1,8 +1,7 @@
-use Rattle.std.proofs.Common.{◌≡◌, ◌≤◌, List, length, Some, None, true, sym, ap, ◌∙◌, subst, refl, arith, true≢false}
+use Rattle.std.proofs.Common.{◌≡◌, ◌≤◌, List, length, Some, None, sym, ap, ◌∙◌, subst, refl, arith, true≢false}
 use Rattle.std.specs.Cmp.Lexicographic.{bytes_decides}
 use Rattle.std.specs.List.{slice_get}
 use Rattle.std.proofs.lemmas.Option.{slice_get_read}
-use Rattle.core_language.specs.Names.{same}
 use Rattle.form_faults.specs.declared.signatures.Signature.{Signature}
 use Rattle.form_faults.specs.Terms.{count_of}
 use Rattle.form_faults.proofs.Places.{unindexed, past, other, here}
