@@ -45,6 +45,14 @@ unfoldable pub least : Option Ill → List Ill → Option Ill
 least best [] = best
 least best (f ∷ fs) = least (sooner_of best f) fs
 
+-- what is kept of a list is its first fault
+abbrev pub LeastIsFirst : Type 0
+LeastIsFirst = (faults : List Ill) (f : Ill) → least None faults ≡ Some f → IsFirst faults f
+
+-- nothing is kept of an empty list alone
+abbrev pub LeastOfNone : Type 0
+LeastOfNone = (faults : List Ill) → least None faults ≡ None → faults ≡ []
+
 -- ---- one fault, or none
 
 -- where no text tells the place

@@ -1,6 +1,8 @@
 //! Faults of form in what programs are made of: names, terms, resources, protocols and operands.
 #![tactic(auto)]
 
+ghost use Rattle.form_faults.specs.Faults.{LeastIsFirst, LeastOfNone};
+
 mod binding;
 mod bounds;
 mod faults;
@@ -25,3 +27,10 @@ pub use signatures::Signature;
 pub use sorts::{Known, Naming, Sort};
 pub use tables::{Table, check_use};
 pub use terms::{check_fixed_ref, check_fixed_term, check_ref, check_term, check_terms};
+
+/// What is kept of a list of faults. It does nothing.
+#[tactic(auto, using(crate::proofs::First::least_is_first, crate::proofs::First::least_is_none))]
+pub fn laws()
+    ensures first { LeastIsFirst }
+    ensures none { LeastOfNone }
+{}
