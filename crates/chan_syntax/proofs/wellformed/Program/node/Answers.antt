@@ -3,15 +3,10 @@ use Rattle.chan_syntax.proofs.wellformed.Program.node.Goals as goal
 
 pub returns-clause-opens : goal.returns-clause-opens
 returns-clause-opens c =
-    rest_opened c.args.self.now _ _ c.parts-parts.ensures.formed.numbered c.requires
+    rest_opened c.args.self.now _ _ c.parts-parts.ensures.formed c.requires
     (read_at c.args.self.now _ _ _ _ c.as_slice-nodes.ensures c.parts-parts.ensures.parts c.requires c.index-nodes-number.is)
 
 pub returns-clause-leads : goal.returns-clause-leads
 returns-clause-leads c =
-    c.parts-parts.ensures.formed.numbered.follow _ _
-    (read_at c.args.self.now _ _ _ _ c.as_slice-nodes.ensures c.parts-parts.ensures.parts c.requires c.index-nodes-number.is)
-
-pub returns-clause-first : goal.returns-clause-first
-returns-clause-first c =
-    c.parts-parts.ensures.formed.plain _ _
+    c.parts-parts.ensures.formed.follow _ _
     (read_at c.args.self.now _ _ _ _ c.as_slice-nodes.ensures c.parts-parts.ensures.parts c.requires c.index-nodes-number.is)
