@@ -1,4 +1,2 @@
 pub mod Reading
-pub mod Fits
-pub mod Runs
-pub mod Samples
+pub mod Troubles
