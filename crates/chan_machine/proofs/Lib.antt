@@ -1,3 +1,4 @@
 pub mod Maps
 pub mod Depths
 pub mod ReadValues
+pub mod Weighing

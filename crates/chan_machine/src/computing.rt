@@ -20,7 +20,7 @@ pub(crate) enum Trouble {
 
 const OUT_OF_RANGE: Trouble = Trouble::Halts(Halt::Range);
 
-const NOT_INT: Trouble = Trouble::Stuck(StuckWhy::NotInt);
+pub(crate) const NOT_INT: Trouble = Trouble::Stuck(StuckWhy::NotInt);
 
 fn add(total: i64, number: i64) -> Result<i64, Trouble>
     ensures { computed_of result ≡ checked machine (total +ℤ number) }

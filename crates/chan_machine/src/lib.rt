@@ -4,6 +4,7 @@
 mod computing;
 mod configurations;
 mod events;
+mod supplying;
 mod tasks;
 mod values;
 

@@ -1,6 +1,6 @@
 //! The values of a run.
 ghost use Rattle.std.specs.Prelude.{◌≡◌, ◌+◌, min, IfOk};
-ghost use Rattle.core_language.specs.Values.{depth};
+ghost use Rattle.core_language.specs.Values.{Pair, Left, Right, depth};
 ghost use Rattle.chan_machine.specs.Reading.{value_as};
 
 use chan_base::{Memory, Name, Number};
@@ -28,6 +28,31 @@ pub enum Value {
 }
 
 impl Value {
+    #[tactic(auto, using(crate::proofs::ReadValues::value_pair))]
+    pub(crate) fn pair(alloc: Global, first: Value, second: Value) -> Result<Value, Memory>
+        ensures { IfOk result (λ value. value_as value ≡ Pair (value_as first) (value_as second)) }
+    {
+        let first = Boxed::new(alloc, first)?;
+        let second = Boxed::new(alloc, second)?;
+        Ok(Value::Pair(first, second))
+    }
+
+    #[tactic(auto, using(crate::proofs::ReadValues::value_left))]
+    pub(crate) fn left(alloc: Global, value: Value) -> Result<Value, Memory>
+        ensures { IfOk result (λ made. value_as made ≡ Left (value_as value)) }
+    {
+        let value = Boxed::new(alloc, value)?;
+        Ok(Value::Left(value))
+    }
+
+    #[tactic(auto, using(crate::proofs::ReadValues::value_right))]
+    pub(crate) fn right(alloc: Global, value: Value) -> Result<Value, Memory>
+        ensures { IfOk result (λ made. value_as made ≡ Right (value_as value)) }
+    {
+        let value = Boxed::new(alloc, value)?;
+        Ok(Value::Right(value))
+    }
+
     pub(crate) fn copy(&self, alloc: Global) -> Result<Value, Memory>
         ensures { IfOk result (λ copy. copy ≡ self.now) }
     {
