@@ -48,3 +48,18 @@ pub record IsNumbered (parts : Parts) : Type 0 where
   pub firsts : (f : ℕ) (func : Func) → slice_get parts.funcs f ≡ Some func → func.first < length parts.nodes
   pub follow : (n : ℕ) (x : Node) → slice_get parts.nodes n ≡ Some x → LeadBelow x (length parts.nodes)
   pub once : (n : ℕ) → n < length parts.nodes → IsReachedOnce parts n
+
+-- ---- numbers in nodes
+
+abbrev pub IsDivisor : ℕ → Type 0
+IsDivisor n = (0 < n) × (n < 2 ^ 63)
+
+-- where the node divides, its divisor is positive and within 64 bits
+abbrev pub HasDivisor : Node → Type 0
+HasDivisor (node.Div name name_at term divisor divisor_at next span) = IsDivisor divisor
+HasDivisor (node.Rem name name_at term divisor divisor_at next span) = IsDivisor divisor
+HasDivisor other = Unit {0}
+
+pub record IsFormed (parts : Parts) : Type 0 where
+  pub numbered : IsNumbered parts
+  pub divisors : (n : ℕ) (x : Node) → slice_get parts.nodes n ≡ Some x → HasDivisor x

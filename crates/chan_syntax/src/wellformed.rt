@@ -2,7 +2,7 @@
 ghost use Rattle.std.specs.Prelude.{◌≡◌, ◌<◌, length, IfSome, IfOk, OnErr, IsErrOf};
 ghost use Rattle.std.specs.Option.{option_copied};
 ghost use Rattle.chan_syntax.specs.Bodies.{opened, rest, func_named};
-ghost use Rattle.chan_syntax.specs.Formed.{IsNumbered, LeadBelow};
+ghost use Rattle.chan_syntax.specs.Formed.{IsFormed, HasDivisor, LeadBelow};
 
 use crate::identifiers::{Idents, Span};
 use crate::nodes::{Func, Node, Parts};
@@ -49,16 +49,16 @@ impl Model for Program {
 
     ghost coded = { whole.the_row.coded };
 
-    ghost use Rattle.chan_syntax.specs.Formed.{IsNumbered};
+    ghost use Rattle.chan_syntax.specs.Formed.{IsFormed};
 
     ghost view = { λ p. p.parts };
 
-    ghost invariant = { λ p. IsNumbered p.parts };
+    ghost invariant = { λ p. IsFormed p.parts };
 }
 
 impl Program {
     pub fn build(parts: Parts) -> Result<Program, BuildFault>
-        requires { IsNumbered parts }
+        requires { IsFormed parts }
         ensures ok { IfOk result (λ program. program ≡ parts) }
         ensures err { OnErr result (IsErrOf result BuildFault.Memory) }
     {
@@ -67,7 +67,7 @@ impl Program {
 
     pub fn parts(&self) -> &Parts
         ensures parts { result.now ≡ self.now }
-        ensures formed { IsNumbered self.now }
+        ensures formed { IsFormed self.now }
     {
         &self.parts
     }
@@ -77,6 +77,7 @@ impl Program {
         requires { number < length self.now.nodes }
         ensures opens { rest self.now.nodes number ≡ opened result.now (rest self.now.nodes) }
         ensures leads { LeadBelow result.now (length self.now.nodes) }
+        ensures divisor { HasDivisor result.now }
     {
         let parts = self.parts();
         let nodes = parts.nodes.as_slice();
