@@ -1,9 +1,12 @@
 -- The depth of a supplied value from those of its parts.
-use Rattle.std.proofs.Common.{◌≡◌, ℕ, suc, ◌+◌, max, min, nat_le, nat_lt, Bool, true, false, cond, refl, sym, ap, ◌∙◌, arith}
+use Rattle.std.proofs.Common.{Err, List, drop, get_or, length, ◌∷◌, ◌≡◌, ℕ, suc, ◌+◌, ◌<◌, max, min, nat_le, nat_lt, Bool, true, false, cond, refl, sym, ap, ◌∙◌, arith}
 use Rattle.std.proofs.lemmas.Bool.Decides.{nat_tests}
+use Rattle.std.proofs.lemmas.List.{drop_more}
 use Rattle.core_language.specs.Values.{Value, Pair, Left, Right, depth, is_shallow}
 use Rattle.core_language.specs.Computing.{Computed, Done, Sticks, Halts, Deep, and_then, shallow}
-use Rattle.chan_machine.specs.Troubles.{depth_of, nested_of}
+use Rattle.chan_machine.specs.Troubles.{computed_of, depth_of, nested_of, done_of}
+use Rattle.chan_machine.specs.declared.computing.Trouble.{Trouble}
+use Rattle.chan_machine.specs.declared.computing.Trouble.TheVariants as trouble
 
 same_test : (d x : ℕ) → x ≡ min d 257 → nat_le (suc d) 256 ≡ nat_lt x 256
 same_test d x is = grind (arith, nat_tests, is)
@@ -49,3 +52,29 @@ pub weighs_right : (m : Computed Value) → and_then (depth_of m) nested_of ≡ 
 weighs_right (Done a) = sym (nests (Right a) (depth a) (min (depth a) 257) refl refl)
 weighs_right (Sticks why) = refl
 weighs_right (Halts why) = refl
+
+pub weighs_done : (m : Computed Value) → done_of (depth_of m) ≡ done_of m
+weighs_done (Done a) = refl
+weighs_done (Sticks why) = refl
+weighs_done (Halts why) = refl
+
+-- whether a first value and the others are there
+pub weighs_all : (m : Computed Value) (u : Computed (List Value)) → done_of (and_then m (λ v. and_then u (λ vs. Done (v ∷ vs)))) ≡ and_then (done_of m) (λ _. done_of u)
+weighs_all (Done a) (Done vs) = refl
+weighs_all (Done a) (Sticks why) = refl
+weighs_all (Done a) (Halts why) = refl
+weighs_all (Sticks why) u = refl
+weighs_all (Halts why) u = refl
+
+-- the first trouble is that of them all
+pub stops : (t : Trouble) (m : Computed Value) (u : Computed (List Value)) → computed_of {A = Unit {0}} (Err t) ≡ done_of m
+    → computed_of {A = Unit {0}} (Err t) ≡ done_of (and_then m (λ v. and_then u (λ vs. Done (v ∷ vs))))
+stops (trouble.Stuck why) m u is = ap (λ c. and_then c (λ _. done_of u)) is ∙ sym (weighs_all m u)
+stops (trouble.Halts why) m u is = ap (λ c. and_then c (λ _. done_of u)) is ∙ sym (weighs_all m u)
+
+pub passes : (m : Computed Value) (u : Computed (List Value)) → Done (tt {0}) ≡ done_of m → done_of (and_then m (λ v. and_then u (λ vs. Done (v ∷ vs)))) ≡ done_of u
+passes m u is = weighs_all m u ∙ ap (λ c. and_then c (λ _. done_of u)) (sym is)
+
+-- the rest of a list begins with the element that was read
+pub next_is : {X : Type 0} (xs : List X) (i : ℕ) (x : X) → i < length xs → x ≡ get_or xs i x → drop i xs ≡ x ∷ drop (i + 1) xs
+next_is xs i x lt is = drop_more xs i x lt ∙ ap (λ y. y ∷ drop (i + 1) xs) (sym is)

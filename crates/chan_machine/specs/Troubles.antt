@@ -1,5 +1,5 @@
 -- Results of the machine's computing as those of the core language.
-use Rattle.std.specs.Prelude.{ℕ, ◌+◌, min, nat_lt, if◌then◌else◌, Result, Ok, Err}
+use Rattle.std.specs.Prelude.{ℕ, ◌+◌, List, map, min, nat_lt, if◌then◌else◌, Result, Ok, Err}
 use Rattle.core_language.specs.Values as value
 use Rattle.core_language.specs.Values.{depth}
 use Rattle.core_language.specs.Computing as core
@@ -26,3 +26,12 @@ abbrev pub made_of : Result Value Trouble → core.Computed value.Value
 made_of (Ok v) = core.Done (value_as v)
 made_of (Err (trouble.Stuck why)) = core.Sticks (why_of why)
 made_of (Err (trouble.Halts why)) = core.Halts (halt_of why)
+
+abbrev pub all_made_of : Result (List Value) Trouble → core.Computed (List value.Value)
+all_made_of (Ok vs) = core.Done (map value_as vs)
+all_made_of (Err (trouble.Stuck why)) = core.Sticks (why_of why)
+all_made_of (Err (trouble.Halts why)) = core.Halts (halt_of why)
+
+-- whether there is a result
+abbrev pub done_of : {A : Type 0} → core.Computed A → core.Computed (Unit {0})
+done_of computed = core.and_then computed (λ _. core.Done (tt {0}))

@@ -2,6 +2,7 @@
 ghost use Rattle.std.specs.Prelude.{◌≡◌, ◌+ℤ◌, ◌-ℤ◌, ◌*ℤ◌};
 ghost use Rattle.std.specs.Option.{option_map};
 ghost use Rattle.core_language.specs.Computing.{machine, value_of, as_int, checked, joined, product as product_of, sum_of, multiplied, divided, left_over};
+ghost use Rattle.chan_syntax.specs.Formed.{IsDivisor};
 ghost use Rattle.chan_syntax.specs.Reading.{term_of};
 ghost use Rattle.chan_machine.specs.Reading.{env_of, value_as};
 ghost use Rattle.chan_machine.specs.Troubles.{computed_of};
@@ -110,4 +111,26 @@ pub(crate) fn product_of_sums(binds: &[Bind], left: &Term, right: &Term) -> Resu
     let left = sum(binds, left)?;
     let right = sum(binds, right)?;
     multiply(left, right)
+}
+
+/// The quotient, rounded down.
+pub(crate) fn quotient(binds: &[Bind], term: &Term, divisor: u64) -> Result<i64, Trouble>
+    requires { IsDivisor divisor }
+    ensures { computed_of result ≡ divided machine (env_of binds.now) (term_of term.now) divisor }
+{
+    match sum(binds, term) {
+        Ok(number) => Ok(number.div_euclid(divisor as i64)),
+        Err(trouble) => Err(trouble),
+    }
+}
+
+/// What the division leaves over.
+pub(crate) fn remainder(binds: &[Bind], term: &Term, divisor: u64) -> Result<i64, Trouble>
+    requires { IsDivisor divisor }
+    ensures { computed_of result ≡ left_over machine (env_of binds.now) (term_of term.now) divisor }
+{
+    match sum(binds, term) {
+        Ok(number) => Ok(number.rem_euclid(divisor as i64)),
+        Err(trouble) => Err(trouble),
+    }
 }

@@ -1,18 +1,19 @@
 //! The values that supplies make.
-ghost use Rattle.std.specs.Prelude.{◌≡◌, max, IfOk};
+ghost use Rattle.std.specs.Prelude.{◌≡◌, max, map, IfOk};
 ghost use Rattle.std.specs.Option.{option_copied, option_map};
-ghost use Rattle.core_language.specs.Computing.{machine, Done, and_then, shallow as shallow_of, known, sum_of, bare_part as bare_part_of, bare_name as bare_name_of, term_value, supplied};
+ghost use Rattle.core_language.specs.Computing.{machine, Done, and_then, shallow as shallow_of, known, sum_of, bare_part as bare_part_of, bare_name as bare_name_of, term_value, supplied, all_supplied};
 ghost use Rattle.core_language.specs.Values.{Int, Pair, Left, Right};
 ghost use Rattle.chan_syntax.specs.Reading.{term_of, supply_of};
 ghost use Rattle.chan_machine.specs.Reading.{env_of, value_as};
-ghost use Rattle.chan_machine.specs.Troubles.{computed_of, depth_of, nested_of, made_of};
+ghost use Rattle.chan_machine.specs.Troubles.{computed_of, depth_of, nested_of, done_of, made_of, all_made_of};
 
 use crate::computing::{NOT_INT, Trouble, lookup, sum};
 use crate::events::StuckWhy;
 use crate::tasks::Bind;
-use crate::values::{TOO_DEEP, Value};
+use crate::values::{TOO_DEEP, Value, Values};
 use chan_base::Memory;
 use chan_syntax::{Ident, Part, Supply, Term};
+use sqlite_items::Items;
 use std::alloc::Global;
 
 const DEEP: Trouble = Trouble::Stuck(StuckWhy::Deep);
@@ -223,4 +224,50 @@ pub(crate) fn make(
         }
         Supply::Sum(term) => make_term(alloc, binds, term),
     }
+}
+
+fn forget(depth: Result<usize, Trouble>) -> Result<(), Trouble>
+    ensures { computed_of result ≡ done_of (computed_of depth) }
+{
+    match depth {
+        Ok(_) => Ok(()),
+        Err(trouble) => Err(trouble),
+    }
+}
+
+/// Whether the supply makes a value.
+pub(crate) fn weighed(binds: &[Bind], supply: &Supply) -> Result<(), Trouble>
+    ensures { computed_of result ≡ done_of (supplied machine (env_of binds.now) (supply_of supply.now)) }
+{
+    forget(weigh(binds, supply))
+}
+
+/// Whether the supplies make their values, in order.
+pub(crate) fn weigh_all(binds: &[Bind], supplies: &[Supply]) -> Result<(), Trouble>
+    ensures { computed_of result ≡ done_of (all_supplied machine (env_of binds.now) (map supply_of supplies.now)) }
+{
+    'supplies: for supply in supplies {
+        if let Err(trouble) = weighed(binds, supply) {
+            return Err(trouble);
+        }
+    }
+    Ok(())
+}
+
+/// The values that the supplies make, in order.
+pub(crate) fn make_all(
+    alloc: Global,
+    binds: &[Bind],
+    supplies: &[Supply],
+) -> Result<Result<Values, Trouble>, Memory>
+    ensures { IfOk result (λ made. all_made_of made ≡ all_supplied machine (env_of binds.now) (map supply_of supplies.now)) }
+{
+    let mut values = Items::new(alloc);
+    'supplies: for supply in supplies {
+        match make(alloc, binds, supply)? {
+            Ok(value) => values.push(value)?,
+            Err(trouble) => return Ok(Err(trouble)),
+        }
+    }
+    Ok(Ok(values))
 }

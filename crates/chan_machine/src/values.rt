@@ -4,8 +4,10 @@ ghost use Rattle.core_language.specs.Values.{Pair, Left, Right, depth};
 ghost use Rattle.chan_machine.specs.Reading.{value_as};
 
 use chan_base::{Memory, Name, Number};
-use sqlite_items::Boxed;
+use sqlite_items::{Boxed, Items};
 use std::alloc::Global;
+
+pub(crate) type Values = Items<Value>;
 
 /// No value of a run is nested this deep.
 pub(crate) const TOO_DEEP: usize = 257;
