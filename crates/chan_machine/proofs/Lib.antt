@@ -2,3 +2,4 @@ pub mod Maps
 pub mod Depths
 pub mod ReadValues
 pub mod Weighing
+pub mod ActKinds

@@ -1,3 +1,4 @@
 pub mod Reading
 pub mod Troubles
 pub mod Kinds
+pub mod Fits

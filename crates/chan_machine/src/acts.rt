@@ -5,21 +5,22 @@ ghost use Rattle.core_language.specs.Programs.{Body, Program as CoreProgram};
 ghost use Rattle.core_language.specs.Computing.{machine, Depth};
 ghost use Rattle.core_language.specs.Values as core;
 ghost use Rattle.core_language.specs.Configurations.{Caller, Place};
-ghost use Rattle.core_language.specs.Acts.{act_at as act_at_body, on_pair, on_sum, Silent as Silently};
+ghost use Rattle.core_language.specs.Acts.{act_of, act_at as act_at_body, on_pair, on_sum, Silent as Silently};
 ghost use Rattle.core_language.specs.Endings.{is_nil};
-ghost use Rattle.chan_syntax.specs.Bodies.{opened};
+ghost use Rattle.chan_syntax.specs.Bodies.{opened, program_of};
 ghost use Rattle.chan_syntax.specs.Formed.{HasDivisor};
-ghost use Rattle.chan_machine.specs.Reading.{env_of, value_as};
+ghost use Rattle.chan_machine.specs.Reading.{env_of, place_of, value_as};
+ghost use Rattle.chan_machine.specs.Fits.{FramesFit};
 ghost use Rattle.chan_machine.specs.Troubles.{computed_of, done_of};
 ghost use Rattle.chan_machine.specs.Kinds.{Silent, End, Fork, IsHalted, kind_as, kind_of, kind_after, kind_at_end, print_after};
 
 use crate::computing::{Trouble, lookup, product_of_sums, quotient, remainder, sum};
 use crate::events::{Halt, StuckWhy};
 use crate::supplying::{weigh_all, weighed};
-use crate::tasks::Bind;
+use crate::tasks::{Bind, Task};
 use crate::values::Value;
 use chan_base::Name;
-use chan_syntax::Node;
+use chan_syntax::{Node, Program};
 
 /// What a task does next, where the channel of a send is Empty and that of a receive is Full.
 #[derive(Debug, Drop)]
@@ -109,4 +110,58 @@ fn returned(last: bool) -> Act
     ensures { kind_as result ≡ (if last then End else Silent) }
 {
     if last { Act::End } else { Act::Silent }
+}
+
+/// The act of the task with this name at the node; `last` says that its frame has no caller.
+fn act_at(name: &Name, node: &Node, binds: &[Bind], last: bool) -> Act
+    requires { HasDivisor node.now }
+    ensures { (program : CoreProgram) (forks : ℕ) (at : ℕ → Body) (callers : List Caller) → is_nil callers ≡ last
+        → kind_as result ≡ kind_of (act_at_body machine program name.now forks (opened node.now at) (env_of binds.now) callers) }
+{
+    match node {
+        Node::Let { term, .. } => after_number(sum(binds, term), Act::Silent),
+        Node::Mul { left, right, .. } => {
+            after_number(product_of_sums(binds, left, right), Act::Silent)
+        }
+        Node::Div { term, divisor, .. } => {
+            after_number(quotient(binds, term, *divisor), Act::Silent)
+        }
+        Node::Rem { term, divisor, .. } => {
+            after_number(remainder(binds, term, *divisor), Act::Silent)
+        }
+        Node::Call { values, .. } => after(weigh_all(binds, values.as_slice()), Act::Silent),
+        Node::Tail { values, .. } => after(weigh_all(binds, values.as_slice()), Act::Silent),
+        Node::Fork { values, .. } => after(weigh_all(binds, values.as_slice()), fork(name)),
+        Node::Send1 { channel, value, .. } => after(
+            weighed(binds, value),
+            at_end(lookup(binds, channel), Act::Send),
+        ),
+        Node::Recv1 { channel, .. } => at_end(lookup(binds, channel), Act::Recv),
+        Node::Print { term, .. } => print(sum(binds, term)),
+        Node::If { left, right, .. } => after_number(
+            sum(binds, left),
+            after_number(sum(binds, right), Act::Silent),
+        ),
+        Node::Split { name: pair, .. } => at_pair(lookup(binds, pair)),
+        Node::Match { name: choice, .. } => at_sum(lookup(binds, choice)),
+        Node::Absurd { .. } => Act::Stuck(StuckWhy::Absurd),
+        Node::Ret { value, .. } => after(weighed(binds, value), returned(last)),
+    }
+}
+
+impl Task {
+    /// What the task does next, where the channel of a send is Empty and that of a receive is Full.
+    pub fn act(&self, program: &Program) -> Act
+        requires fits { FramesFit program.now.nodes self.now.frames }
+        ensures { kind_as result ≡ kind_of (act_of machine (program_of program.now) self.now.name self.now.forks (place_of program.now.nodes self.now.frames)) }
+    {
+        match self.frames.as_slice().last() {
+            Some(frame) => {
+                let node = program.node(frame.node);
+                let last = self.frames.len() == 1;
+                act_at(&self.name, node, frame.binds.as_slice(), last)
+            }
+            None => Act::Ended,
+        }
+    }
 }
