@@ -2,3 +2,4 @@ pub mod Reading
 pub mod Troubles
 pub mod Kinds
 pub mod Fits
+pub mod Naming

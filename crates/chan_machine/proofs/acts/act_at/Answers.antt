@@ -1,11 +1,11 @@
-use Rattle.std.proofs.Common.{◌≡◌, int_le, if◌then◌else◌, sym, ap, ◌∙◌}
+use Rattle.std.proofs.Common.{int_le, if◌then◌else◌, sym, ap, ◌∙◌}
 use Rattle.core_language.specs.Computing.{machine, value_of, sum_of, supplied}
 use Rattle.core_language.specs.Acts.{act_at, at, bound, on_pair, on_sum}
 use Rattle.core_language.specs.Acts as act
 use Rattle.chan_syntax.specs.Reading.{term_of, supply_of}
 use Rattle.chan_syntax.specs.Bodies.{opened}
 use Rattle.chan_machine.specs.Reading.{env_of}
-use Rattle.chan_machine.specs.Troubles.{computed_of, done_of}
+use Rattle.chan_machine.specs.Troubles.{done_of}
 use Rattle.chan_machine.specs.Kinds.{Silent, Send, kind_as, kind_of, kind_after, kind_at_end}
 use Rattle.chan_machine.proofs.ActKinds.{sends, chooses}
 use Rattle.chan_machine.proofs.acts.act_at.Goals as goal
