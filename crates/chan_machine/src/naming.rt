@@ -1,11 +1,21 @@
 //! What the rest of a body still names.
-ghost use Rattle.std.specs.Prelude.{◌≡◌, ◌<◌, ◌||◌, map, length};
+ghost use Rattle.std.specs.Prelude.{◌≡◌, ℕ, suc, ◌<◌, ◌||◌, map, length};
 ghost use Rattle.core_language.specs.Configurations.{is_name as is_name_of, in_term as in_term_of, in_supply as in_supply_of, in_supplies as in_supplies_of, names};
 ghost use Rattle.chan_syntax.specs.Reading.{term_of, supply_of};
-ghost use Rattle.chan_syntax.specs.Bodies.{rest};
-ghost use Rattle.chan_machine.specs.Naming.{reads as reads_of};
+ghost use Rattle.core_language.specs.Names.{Ident as IdentOf};
+ghost use Rattle.core_language.specs.Programs.{Body};
+ghost use Rattle.chan_syntax.specs.Bodies.{opened, rest};
+ghost use Rattle.chan_syntax.specs.Formed.{nexts};
+ghost use Rattle.chan_machine.specs.Naming.{either_follows, numbers, reads as reads_of, size, size_following};
 
 use chan_syntax::{Ident, Node, Part, Program, Supply, Term};
+
+/// The numbers of the nodes that follow a node.
+enum Follow {
+    Nothing,
+    One(u32),
+    Two(u32, u32),
+}
 
 fn is_name(name: &Ident, part: &Part) -> bool
     ensures { result ≡ is_name_of name.now part.now.name }
@@ -79,5 +89,53 @@ fn reads(node: &Node, name: &Ident) -> bool
         Node::Match { name: choice, .. } => name == choice,
         Node::Absurd { .. } => false,
         Node::Ret { value, .. } => in_supply(name, value),
+    }
+}
+
+fn following(node: &Node) -> Follow
+    ensures named { (at : ℕ → Body) (x : IdentOf) → names (opened node.now at) x ≡ (reads_of node.now x || either_follows result (λ n. names (at n) x)) }
+    ensures size { (at : ℕ → Body) → size (opened node.now at) ≡ suc (size_following result (λ n. size (at n))) }
+    ensures numbers { numbers result ≡ nexts node.now }
+{
+    match node {
+        Node::Let { next, .. } => Follow::One(*next),
+        Node::Mul { next, .. } => Follow::One(*next),
+        Node::Div { next, .. } => Follow::One(*next),
+        Node::Rem { next, .. } => Follow::One(*next),
+        Node::Call { next, .. } => Follow::One(*next),
+        Node::Tail { .. } => Follow::Nothing,
+        Node::Fork { next, .. } => Follow::One(*next),
+        Node::Send1 { next, .. } => Follow::One(*next),
+        Node::Recv1 { next, .. } => Follow::One(*next),
+        Node::Print { next, .. } => Follow::One(*next),
+        Node::If { yes, no, .. } => Follow::Two(*yes, *no),
+        Node::Split { next, .. } => Follow::One(*next),
+        Node::Match { yes, no, .. } => Follow::Two(*yes, *no),
+        Node::Absurd { .. } => Follow::Nothing,
+        Node::Ret { .. } => Follow::Nothing,
+    }
+}
+
+/// Whether the body at the number names the variable.
+pub(crate) fn is_named(program: &Program, number: u32, name: &Ident) -> bool
+    requires { number < length program.now.nodes }
+    ensures { result ≡ names (rest program.now.nodes number) name.now }
+{
+    let mut at = number;
+    'nodes: loop {
+        let node = program.node(at);
+        if reads(node, name) {
+            return true;
+        }
+        match following(node) {
+            Follow::Nothing => return false,
+            Follow::One(next) => at = next,
+            Follow::Two(this, other) => {
+                if is_named(program, this, name) {
+                    return true;
+                }
+                at = other;
+            }
+        }
     }
 }
