@@ -152,8 +152,8 @@ fn act_at(name: &Name, node: &Node, binds: &[Bind], last: bool) -> Act
 impl Task {
     /// What the task does next, where the channel of a send is Empty and that of a receive is Full.
     pub fn act(&self, program: &Program) -> Act
-        requires fits { FramesFit program.now.nodes self.now.frames }
-        ensures { kind_as result ≡ kind_of (act_of machine (program_of program.now) self.now.name self.now.forks (place_of program.now.nodes self.now.frames)) }
+        requires fits { FramesFit program.now.nodes self.now.frames.items }
+        ensures { kind_as result ≡ kind_of (act_of machine (program_of program.now) self.now.name self.now.forks (place_of program.now.nodes self.now.frames.items)) }
     {
         match self.frames.as_slice().last() {
             Some(frame) => {
