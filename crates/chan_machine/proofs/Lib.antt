@@ -3,3 +3,5 @@ pub mod Depths
 pub mod ReadValues
 pub mod Weighing
 pub mod ActKinds
+pub mod Keeping
+pub mod Places

@@ -3,3 +3,4 @@ pub mod Troubles
 pub mod Kinds
 pub mod Fits
 pub mod Naming
+pub mod Moving

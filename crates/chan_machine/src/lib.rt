@@ -5,6 +5,7 @@ mod acts;
 mod computing;
 mod configurations;
 mod events;
+mod moving;
 mod naming;
 mod supplying;
 mod tasks;
