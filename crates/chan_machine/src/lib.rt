@@ -7,6 +7,7 @@ mod configurations;
 mod events;
 mod moving;
 mod naming;
+mod quiet;
 mod supplying;
 mod tasks;
 mod values;
