@@ -1,6 +1,6 @@
 -- What becomes of a task's place when its top frame goes on.
-use Rattle.std.specs.Prelude.{◌≡◌, ℕ, ℤ, List}
-use Rattle.core_language.specs.Names.{Ident}
+use Rattle.std.specs.Prelude.{◌≡◌, ℕ, ℤ, Bool, if◌then◌else◌, List, [], ◌∷◌}
+use Rattle.core_language.specs.Names.{Name, Ident}
 use Rattle.core_language.specs.Values as value
 use Rattle.core_language.specs.Acts as act
 use Rattle.core_language.specs.Configurations.{Place, Running, Ended}
@@ -41,3 +41,13 @@ Comes (act.IsStuck why) s new old = (w : StuckWhy) × (s ≡ stepped.Stuck w) ×
 Comes (act.Fork child parent its) s new old = ⊥
 Comes (act.Send channel v place) s new old = ⊥
 Comes (act.Recv channel place) s new old = ⊥
+
+-- the top frame at one of two nodes
+abbrev pub chosen : List Node → ℕ → ℕ → Bool → Place → Place
+chosen nodes n m first Ended = Ended
+chosen nodes n m first (Running here env callers) = at (if first then rest nodes n else rest nodes m) env callers
+
+-- the number that a step prints, with the task's name
+abbrev pub number_shown : Name → Stepped → List (Name × ℤ)
+number_shown p (stepped.Moved (event.Print z)) = (p, z) ∷ []
+number_shown p other = []
