@@ -1,19 +1,21 @@
 //! Steps that a task makes by itself.
-ghost use Rattle.std.specs.Prelude.{◌≡◌, ◌<◌, ◌++◌, int_le, length, IfOk, OnErr};
-ghost use Rattle.core_language.specs.Acts.{Silent, Print, IsStuck, IsHalted, with_result};
-ghost use Rattle.core_language.specs.Computing.{Done, Sticks, Halts};
+ghost use Rattle.std.specs.Prelude.{◌≡◌, ◌<◌, ◌++◌, int_le, length, IfOk, IfSome, OnErr};
+ghost use Rattle.core_language.specs.Acts.{act_of, Silent, Print, IsStuck, IsHalted, with_result};
+ghost use Rattle.core_language.specs.Computing.{machine};
+ghost use Rattle.chan_syntax.specs.Bodies.{program_of};
+ghost use Rattle.chan_machine.specs.Fits.{FramesFit};
 ghost use Rattle.chan_machine.specs.Reading.{place_of, prints_of};
 ghost use Rattle.chan_machine.specs.Troubles.{computed_of};
 ghost use Rattle.chan_machine.specs.Moving.{Comes, assigned, at_node, chosen, number_shown};
 
-use crate::computing::Trouble;
+use crate::computing::{Trouble, product_of_sums, quotient, remainder, sum};
 use crate::configurations::{Put, Puts};
 use crate::events::{Event, Stepped};
 use crate::moving::{bind, go_on};
 use crate::tasks::{Bind, Task};
 use crate::values::Value;
 use chan_base::Memory;
-use chan_syntax::{Ident, Program};
+use chan_syntax::{Ident, Node, Program};
 use std::alloc::Global;
 
 /// Binds the number and goes on, or says why there is none.
@@ -105,5 +107,65 @@ fn print(
         }
         Err(Trouble::Stuck(why)) => Ok(Stepped::Stuck(why)),
         Err(Trouble::Halts(why)) => Ok(Stepped::Halts(why)),
+    }
+}
+
+/// The step of a task whose node computes a number for a variable; None at another node.
+fn compute(
+    alloc: Global,
+    program: &Program,
+    task: &mut Task,
+) -> Result<Option<Stepped>, Memory>
+    requires fits { FramesFit program.now.nodes task.old.frames.items }
+    ensures comes { IfOk result (λ answer. IfSome answer (λ s. Comes (act_of machine (program_of program.now) task.old.name task.old.forks (place_of program.now.nodes task.old.frames.items)) s
+        (place_of program.now.nodes task.new.frames.items) (place_of program.now.nodes task.old.frames.items))) }
+{
+    let Some(frame) = task.frames.as_slice().last() else {
+        return Ok(None);
+    };
+    let node = program.node(frame.node);
+    let binds = frame.binds.as_slice();
+    match node {
+        Node::Let {
+            name, term, next, ..
+        } => {
+            let number = sum(binds, term);
+            let stepped = assign(alloc, program, task, name, number, *next)?;
+            Ok(Some(stepped))
+        }
+        Node::Mul {
+            name,
+            left,
+            right,
+            next,
+            ..
+        } => {
+            let number = product_of_sums(binds, left, right);
+            let stepped = assign(alloc, program, task, name, number, *next)?;
+            Ok(Some(stepped))
+        }
+        Node::Div {
+            name,
+            term,
+            divisor,
+            next,
+            ..
+        } => {
+            let number = quotient(binds, term, *divisor);
+            let stepped = assign(alloc, program, task, name, number, *next)?;
+            Ok(Some(stepped))
+        }
+        Node::Rem {
+            name,
+            term,
+            divisor,
+            next,
+            ..
+        } => {
+            let number = remainder(binds, term, *divisor);
+            let stepped = assign(alloc, program, task, name, number, *next)?;
+            Ok(Some(stepped))
+        }
+        _ => Ok(None),
     }
 }
