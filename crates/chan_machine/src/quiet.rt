@@ -10,7 +10,7 @@ ghost use Rattle.chan_machine.specs.Moving.{Comes, assigned, at_node, chosen, nu
 
 use crate::computing::{Trouble, product_of_sums, quotient, remainder, sum};
 use crate::configurations::{Put, Puts};
-use crate::events::{Event, Stepped};
+use crate::events::{Event, Stepped, StuckWhy};
 use crate::moving::{bind, go_on};
 use crate::tasks::{Bind, Task};
 use crate::values::Value;
@@ -110,24 +110,24 @@ fn print(
     }
 }
 
-/// The step of a task whose node computes a number for a variable; None at another node.
-fn compute(
-    alloc: Global,
-    program: &Program,
-    task: &mut Task,
-) -> Result<Option<Stepped>, Memory>
+/// The step of a task that has ended, or whose node computes a number for a variable, chooses or
+/// is absurd; None at another node.
+fn compute(alloc: Global, program: &Program, task: &mut Task) -> Result<Option<Stepped>, Memory>
     requires fits { FramesFit program.now.nodes task.old.frames.items }
     ensures comes { IfOk result (λ answer. IfSome answer (λ s. Comes (act_of machine (program_of program.now) task.old.name task.old.forks (place_of program.now.nodes task.old.frames.items)) s
         (place_of program.now.nodes task.new.frames.items) (place_of program.now.nodes task.old.frames.items))) }
 {
     let Some(frame) = task.frames.as_slice().last() else {
-        return Ok(None);
+        return Ok(Some(Stepped::Ended));
     };
     let node = program.node(frame.node);
     let binds = frame.binds.as_slice();
     match node {
         Node::Let {
-            name, term, next, ..
+            name,
+            term,
+            next,
+            ..
         } => {
             let number = sum(binds, term);
             let stepped = assign(alloc, program, task, name, number, *next)?;
@@ -166,6 +166,19 @@ fn compute(
             let stepped = assign(alloc, program, task, name, number, *next)?;
             Ok(Some(stepped))
         }
+        Node::If {
+            left,
+            right,
+            yes,
+            no,
+            ..
+        } => {
+            let left = sum(binds, left);
+            let right = sum(binds, right);
+            let stepped = choose(program, task, left, right, *yes, *no);
+            Ok(Some(stepped))
+        }
+        Node::Absurd { .. } => Ok(Some(Stepped::Stuck(StuckWhy::Absurd))),
         _ => Ok(None),
     }
 }

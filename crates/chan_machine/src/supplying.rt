@@ -44,7 +44,11 @@ fn bare_name(term: &Term) -> Option<&Ident>
 fn nested(depth: usize) -> Result<usize, Trouble>
     ensures { computed_of result ≡ nested_of depth }
 {
-    if depth < 256 { Ok(depth + 1) } else { Err(DEEP) }
+    if depth < 256 {
+        Ok(depth + 1)
+    } else {
+        Err(DEEP)
+    }
 }
 
 fn nested_in(depth: Result<usize, Trouble>) -> Result<usize, Trouble>
@@ -139,10 +143,7 @@ fn make_pair(
     }
 }
 
-fn make_left(
-    alloc: Global,
-    value: Result<Value, Trouble>,
-) -> Result<Result<Value, Trouble>, Memory>
+fn make_left(alloc: Global, value: Result<Value, Trouble>) -> Result<Result<Value, Trouble>, Memory>
     ensures { IfOk result (λ made. made_of made ≡ and_then (made_of value) (λ a. shallow_of (Left a))) }
 {
     match value {

@@ -101,5 +101,9 @@ impl Value {
 pub(crate) fn deeper(depth: usize) -> usize
     ensures { result ≡ min (depth + 1) 257 }
 {
-    if depth < TOO_DEEP { depth + 1 } else { TOO_DEEP }
+    if depth < TOO_DEEP {
+        depth + 1
+    } else {
+        TOO_DEEP
+    }
 }

@@ -13,3 +13,9 @@ assign-requires-in-Div c = c.node-node.ensures.leads 0 c.in-Div.next (ap (λ x. 
 
 pub assign-requires-in-Rem : goal.assign-requires-in-Rem
 assign-requires-in-Rem c = c.node-node.ensures.leads 0 c.in-Rem.next (ap (λ x. slice_get (nexts x) 0) c.in-Rem.is)
+
+pub choose-stepped-requires-clause-this : goal.choose-stepped-requires-clause-this
+choose-stepped-requires-clause-this c = c.node-node.ensures.leads 0 c.in-If.yes (ap (λ x. slice_get (nexts x) 0) c.in-If.is)
+
+pub choose-stepped-requires-clause-other : goal.choose-stepped-requires-clause-other
+choose-stepped-requires-clause-other c = c.node-node.ensures.leads 1 c.in-If.no (ap (λ x. slice_get (nexts x) 1) c.in-If.is)

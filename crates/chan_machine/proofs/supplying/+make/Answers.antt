@@ -15,20 +15,20 @@ returns-in_ok-second-in-Pair t c =
     let first = c.in_ok-first-in-Pair.ensures ∙ ap (λ (s : Supply). supplied machine env (supply_of s)) c.get.ensures in
     let second = c.in_ok-second-in-Pair.ensures ∙ ap (λ (s : Supply). supplied machine env (supply_of s)) c.get-in-Pair.ensures in
     IfOk-weaker c.make_pair.result _ _ (λ made is.
-      is ∙ ap (λ m. and_then m (λ a. and_then (made_of c.in_ok-second-in-Pair.second) (λ b. shallow (Pair a b)))) first
-      ∙ ap (λ u. and_then (supplied machine env (supply_of c.in-Pair.first)) (λ a. and_then u (λ b. shallow (Pair a b)))) second
-      ∙ ap (supplied machine env) (sym (ap supply_of c.in-Pair.is ∙ supply_pair _ _))) c.make_pair.ensures
+    is ∙ ap (λ m. and_then m (λ a. and_then (made_of c.in_ok-second-in-Pair.second) (λ b. shallow (Pair a b)))) first
+    ∙ ap (λ u. and_then (supplied machine env (supply_of c.in-Pair.first)) (λ a. and_then u (λ b. shallow (Pair a b)))) second
+    ∙ ap (supplied machine env) (sym (ap supply_of c.in-Pair.is ∙ supply_pair _ _))) c.make_pair.ensures
 
 pub returns-in_ok-value-in-Left : goal.returns-in_ok-value-in-Left
 returns-in_ok-value-in-Left t c =
     let env = env_of c.args.binds.now in
     let one = c.in_ok-value-in-Left.ensures ∙ ap (λ (s : Supply). supplied machine env (supply_of s)) c.get-in-Left.ensures in
     IfOk-weaker c.make_left.result _ _ (λ made is.
-      is ∙ ap (λ m. and_then m (λ a. shallow (Left a))) one ∙ ap (supplied machine env) (sym (ap supply_of c.in-Left.is ∙ supply_left _))) c.make_left.ensures
+    is ∙ ap (λ m. and_then m (λ a. shallow (Left a))) one ∙ ap (supplied machine env) (sym (ap supply_of c.in-Left.is ∙ supply_left _))) c.make_left.ensures
 
 pub returns-in_ok-value-in-Right : goal.returns-in_ok-value-in-Right
 returns-in_ok-value-in-Right t c =
     let env = env_of c.args.binds.now in
     let one = c.in_ok-value-in-Right.ensures ∙ ap (λ (s : Supply). supplied machine env (supply_of s)) c.get-in-Right.ensures in
     IfOk-weaker c.make_right.result _ _ (λ made is.
-      is ∙ ap (λ m. and_then m (λ a. shallow (Right a))) one ∙ ap (supplied machine env) (sym (ap supply_of c.in-Right.is ∙ supply_right _))) c.make_right.ensures
+    is ∙ ap (λ m. and_then m (λ a. shallow (Right a))) one ∙ ap (supplied machine env) (sym (ap supply_of c.in-Right.is ∙ supply_right _))) c.make_right.ensures

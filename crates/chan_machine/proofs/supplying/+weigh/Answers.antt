@@ -13,9 +13,9 @@ returns-in-Pair t c =
     let env = env_of c.args.binds.now in
     let weighed : Supply → Computed ℕ = λ s. depth_of (supplied machine env (supply_of s)) in
     c.nested_in.ensures ∙ ap (λ m. and_then m nested_of)
-      (c.deepest_of.ensures
-      ∙ ap (λ m. and_then m (λ x. and_then (computed_of c.weigh-second.result) (λ y. Done (max x y)))) (c.weigh-first.ensures ∙ ap weighed c.get.ensures)
-      ∙ ap (λ u. and_then (weighed c.in-Pair.first) (λ x. and_then u (λ y. Done (max x y)))) (c.weigh-second.ensures ∙ ap weighed c.get-in-Pair.ensures))
+    (c.deepest_of.ensures
+    ∙ ap (λ m. and_then m (λ x. and_then (computed_of c.weigh-second.result) (λ y. Done (max x y)))) (c.weigh-first.ensures ∙ ap weighed c.get.ensures)
+    ∙ ap (λ u. and_then (weighed c.in-Pair.first) (λ x. and_then u (λ y. Done (max x y)))) (c.weigh-second.ensures ∙ ap weighed c.get-in-Pair.ensures))
     ∙ weighs_pair (supplied machine env (supply_of c.in-Pair.first)) (supplied machine env (supply_of c.in-Pair.second))
     ∙ ap (λ s. depth_of (supplied machine env s)) (sym (ap supply_of c.in-Pair.is ∙ supply_pair _ _))
 
