@@ -1,7 +1,7 @@
 use Rattle.std.proofs.Common.{◌||◌, sym, ap, ◌∙◌}
 use Rattle.core_language.specs.Configurations.{in_supply}
 use Rattle.chan_syntax.specs.Reading.{supply_of}
-use Rattle.chan_syntax.proofs.ReadSupplies.{supply_pair, supply_left, supply_right}
+use Rattle.core_programs.proofs.ReadSupplies.{supply_pair, supply_left, supply_right}
 use Rattle.chan_machine.proofs.naming.+in_supply.Goals as goal
 
 pub returns-in-Pair : goal.returns-in-Pair

@@ -4,7 +4,7 @@ use Rattle.core_language.specs.Values.{Pair, Left, Right}
 use Rattle.core_language.specs.Computing.{machine, and_then, shallow, supplied}
 use Rattle.chan_syntax.specs.declared.operands.Supply.{Supply}
 use Rattle.chan_syntax.specs.Reading.{supply_of}
-use Rattle.chan_syntax.proofs.ReadSupplies.{supply_pair, supply_left, supply_right}
+use Rattle.core_programs.proofs.ReadSupplies.{supply_pair, supply_left, supply_right}
 use Rattle.chan_machine.specs.Reading.{env_of}
 use Rattle.chan_machine.specs.Troubles.{made_of}
 use Rattle.chan_machine.proofs.supplying.+make.Goals as goal
