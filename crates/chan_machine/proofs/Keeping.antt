@@ -1,26 +1,36 @@
--- A list that is gone through and loses what fails a test.
-use Rattle.std.proofs.Common.{◌≡◌, ℕ, zero, suc, ◌≤◌, List, [], ◌∷◌, ◌++◌, filter, take, drop, length, Bool, true, false, cond, refl, ap, arith}
-use Rattle.core_language.specs.Names.{Ident}
-use Rattle.chan_machine.specs.declared.tasks.Bind.{Bind}
-use Rattle.chan_machine.specs.Reading.{env_of, value_as}
+-- A task written in a map of tasks.
+use Rattle.std.proofs.Common.{◌≡◌, Bool, true, false, cond, Option, Some, refl, ap, subst, sym, ◌∙◌}
+use Rattle.std.specs.Option.{option_map}
+use Rattle.std.specs.Ordering.{nat_cmp, eq_by_cmp}
+use Rattle.std.specs.Cmp.Lexicographic.{slice_cmp, nat_list_cmp_total}
+use Rattle.std.proofs.lemmas.Map.Lookups.{exact_bytes}
+use Rattle.std.specs.FinMap.{same_map, slice_cmp-IsAntisymmetric, nat_cmp-IsAntisymmetric}
+use Rattle.std.specs.BTreeMap.{BTreeMap, Updates, get as looked_up}
+use Rattle.core_language.specs.Names.{Name}
+use Rattle.core_programs.specs.declared.nodes.Parts.{Parts}
+use Rattle.machine_tasks.specs.declared.tasks.Task.{Task}
+use Rattle.machine_tasks.specs.Fits.{FramesFit}
+use Rattle.chan_machine.specs.Reading.{map_of}
+use Rattle.chan_machine.specs.Fits.{TasksFit}
+use Rattle.chan_machine.proofs.Maps.{get-map_of, equal_from}
 
-module _ {X : Type 0} (p : X → Bool) where
-  -- what was kept so far, and what the test will keep
-  abbrev pub sifted : ℕ → List X → List X
-  sifted i xs = take i xs ++ filter p (drop i xs)
-
-  pub sift_over : (xs : List X) (i : ℕ) → length xs ≤ i → sifted i xs ≡ xs
-  sift_over [] zero le = refl
-  sift_over [] (suc i) le = refl
-  sift_over (x ∷ xs) zero le = absurd (omega (arith, le))
-  sift_over (x ∷ xs) (suc i) le = ap (λ zs. x ∷ zs) (sift_over xs i (omega (arith, le)))
-
--- the variables that a test of names keeps
-pub kept_binds : (test : Ident → Bool) (binds : List Bind) → env_of (filter (λ b. test b.name) binds) ≡ filter (λ b. test b.0) (env_of binds)
-kept_binds test [] = refl
-kept_binds test (b ∷ bs) = by (test b.name) (kept_binds test bs)
+-- a value that is read as the one that was there changes nothing
+pub put_same : {X Y : Type 0} (f : X → Y) (m n : BTreeMap Name X) (k : Name) (v w : X) → looked_up (slice_cmp nat_cmp) m k ≡ Some w → f v ≡ f w
+    → Updates (slice_cmp nat_cmp) m n k (Some v) → map_of f n ≡ map_of f m
+put_same {X} f m n k v w found same put = same_map nat_list_cmp_total (slice_cmp-IsAntisymmetric nat_cmp-IsAntisymmetric) _ _ (λ q.
+    get-map_of f n q ∙ ap (option_map f) (put.0 q) ∙ by q (eq_by_cmp (slice_cmp nat_cmp) k q) refl ∙ sym (get-map_of f m q))
   where
-    by : (c : Bool) → env_of (filter (λ b. test b.name) bs) ≡ filter (λ b. test b.0) (env_of bs)
-        → env_of (cond c (b ∷ filter (λ b. test b.name) bs) (filter (λ b. test b.name) bs)) ≡ cond c ((b.name, value_as b.value) ∷ filter (λ b. test b.0) (env_of bs)) (filter (λ b. test b.0) (env_of bs))
-    by true e = ap (λ zs. (b.name, value_as b.value) ∷ zs) e
-    by false e = e
+    by : (q : Name) (b : Bool) → eq_by_cmp (slice_cmp nat_cmp) k q ≡ b → option_map f (cond b (Some v) (looked_up (slice_cmp nat_cmp) m q)) ≡ option_map f (looked_up (slice_cmp nat_cmp) m q)
+    by q true e = ap Some same ∙ sym (ap (option_map f) (ap (looked_up (slice_cmp nat_cmp) m) (sym (exact_bytes k q (equal_from (slice_cmp nat_cmp k q) e))) ∙ found))
+    by q false e = refl
+
+pub fits_put : (program : Parts) (m n : BTreeMap Name Task) (k : Name) (v : Task) → TasksFit program m → Updates (slice_cmp nat_cmp) m n k (Some v) → v.name ≡ k → FramesFit program.nodes v.frames.items
+    → TasksFit program n
+fits_put program m n k v fits put name frames p t found = by (eq_by_cmp (slice_cmp nat_cmp) k p) refl (sym (put.0 p) ∙ found)
+  where
+    by : (b : Bool) → eq_by_cmp (slice_cmp nat_cmp) k p ≡ b → cond b (Some v) (looked_up (slice_cmp nat_cmp) m p) ≡ Some t → (t.name ≡ p) × FramesFit program.nodes t.frames.items
+    by true e is =
+        let same : v ≡ t = cc in
+        let at : k ≡ p = exact_bytes k p (equal_from (slice_cmp nat_cmp k p) e) in
+        subst (λ x. (x.name ≡ p) × FramesFit program.nodes x.frames.items) same (name ∙ at, frames)
+    by false e is = fits p t is

@@ -1,9 +1,27 @@
--- When a program fits the machine's frames.
-use Rattle.std.specs.Prelude.{◌<◌, List, length}
-use Rattle.std.specs.List.{AllByRecursion}
-use Rattle.core_programs.specs.declared.nodes.Node.{Node}
-use Rattle.chan_machine.specs.declared.tasks.Frame.{Frame}
+-- When a program fits a configuration of the machine.
+use Rattle.std.specs.Prelude.{◌≡◌, ℕ, ◌<◌, Bool, true, false, Some}
+use Rattle.std.specs.Ordering.{nat_cmp}
+use Rattle.std.specs.Cmp.Lexicographic.{slice_cmp}
+use Rattle.std.specs.BTreeMap.{BTreeMap, get}
+use Rattle.core_language.specs.Names.{Name}
+use Rattle.core_programs.specs.declared.nodes.Parts.{Parts}
+use Rattle.machine_tasks.specs.declared.tasks.Task.{Task}
+use Rattle.machine_tasks.specs.Fits.{FramesFit}
+use Rattle.chan_machine.specs.declared.events.Stepped.{Stepped}
+use Rattle.chan_machine.specs.declared.events.Stepped.TheVariants as stepped
+use Rattle.chan_machine.specs.declared.configurations.Config.{Config}
 
--- each frame stands at a node
-abbrev pub FramesFit : List Node → List Frame → Type 0
-FramesFit nodes frames = AllByRecursion (λ f. f.node < length nodes) frames
+-- each task has the name under which it is kept, and fits
+abbrev pub TasksFit : Parts → BTreeMap Name Task → Type 0
+TasksFit program tasks = (p : Name) (t : Task) → get (slice_cmp nat_cmp) tasks p ≡ Some t → (t.name ≡ p) × FramesFit program.nodes t.frames.items
+
+abbrev pub Fits : Parts → Config → Type 0
+Fits program config = TasksFit program config.tasks
+
+-- the task has made fewer forks than there are numbers for them
+abbrev pub CanFork : Config → Name → Type 0
+CanFork config p = (t : Task) → get (slice_cmp nat_cmp) config.tasks p ≡ Some t → t.forks < 4294967295
+
+abbrev pub is_moved : Stepped → Bool
+is_moved (stepped.Moved event) = true
+is_moved other = false

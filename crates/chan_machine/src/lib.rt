@@ -1,19 +1,13 @@
-//! The machine on one thread: tasks, channels, steps, rounds and endings.
+//! The machine on one thread: configurations and their steps.
 #![tactic(auto)]
 
-mod acts;
-mod computing;
 mod configurations;
 mod events;
-mod moving;
-mod naming;
-mod quiet;
-mod supplying;
-mod tasks;
-mod values;
+mod stepping;
 
-pub use acts::Act;
 pub use configurations::{Config, Put, Puts, Store, Stores};
-pub use events::{Ending, Entries, Entry, Event, Halt, Stepped, StuckWhy};
-pub use tasks::{Bind, Binds, Frame, Frames, Task, Tasks};
-pub use values::{Channel, Value};
+pub use events::{Ending, Entries, Entry, Event, Stepped};
+pub use machine_tasks::{
+    Act, Bind, Binds, Channel, Frame, Frames, Halt, Sending, StuckWhy, Task, Tasks, Twins, Value,
+};
+pub use stepping::start;
