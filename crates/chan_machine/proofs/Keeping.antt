@@ -1,18 +1,22 @@
 -- A task written in a map of tasks.
-use Rattle.std.proofs.Common.{◌≡◌, Bool, true, false, cond, Option, Some, refl, ap, subst, sym, ◌∙◌}
+use Rattle.std.proofs.Common.{◌≡◌, ℕ, Bool, true, false, cond, Option, Some, refl, ap, subst, sym, ◌∙◌}
 use Rattle.std.specs.Option.{option_map}
 use Rattle.std.specs.Ordering.{nat_cmp, eq_by_cmp}
 use Rattle.std.specs.Cmp.Lexicographic.{slice_cmp, nat_list_cmp_total}
 use Rattle.std.proofs.lemmas.Map.Lookups.{exact_bytes}
-use Rattle.std.specs.FinMap.{same_map, slice_cmp-IsAntisymmetric, nat_cmp-IsAntisymmetric}
+use Rattle.std.specs.FinMap.{insert, same_map, slice_cmp-IsAntisymmetric, nat_cmp-IsAntisymmetric}
 use Rattle.std.specs.BTreeMap.{BTreeMap, Updates, get as looked_up}
 use Rattle.core_language.specs.Names.{Name}
+use Rattle.core_language.specs.Configurations.{Place}
+use Rattle.core_language.specs.Configurations as core
 use Rattle.core_programs.specs.declared.nodes.Parts.{Parts}
 use Rattle.machine_tasks.specs.declared.tasks.Task.{Task}
 use Rattle.machine_tasks.specs.Fits.{FramesFit}
+use Rattle.machine_tasks.specs.Moving.{place_after}
+use Rattle.machine_tasks.specs.Reading.{act_in, place_of, task_of}
 use Rattle.chan_machine.specs.Reading.{map_of}
 use Rattle.chan_machine.specs.Fits.{TasksFit}
-use Rattle.chan_machine.proofs.Maps.{get-map_of, equal_from}
+use Rattle.chan_machine.proofs.Maps.{get-map_of, put-map_of, equal_from}
 
 -- a value that is read as the one that was there changes nothing
 pub put_same : {X Y : Type 0} (f : X → Y) (m n : BTreeMap Name X) (k : Name) (v w : X) → looked_up (slice_cmp nat_cmp) m k ≡ Some w → f v ≡ f w
@@ -34,3 +38,18 @@ fits_put program m n k v fits put name frames p t found = by (eq_by_cmp (slice_c
         let at : k ≡ p = exact_bytes k p (equal_from (slice_cmp nat_cmp k p) e) in
         subst (λ x. (x.name ≡ p) × FramesFit program.nodes x.frames.items) same (name ∙ at, frames)
     by false e is = fits p t is
+
+pub stayed : (program : Parts) (m n : BTreeMap Name Task) (k : Name) (old new : Task) → looked_up (slice_cmp nat_cmp) m k ≡ Some old → Updates (slice_cmp nat_cmp) m n k (Some new)
+    → place_of program.nodes new.frames.items ≡ place_of program.nodes old.frames.items → new.forks ≡ old.forks → map_of (task_of program.nodes) n ≡ map_of (task_of program.nodes) m
+stayed program m n k old new found put place forks =
+    let made : Place → ℕ → core.Task = λ x y. record { place = x; forks = y } in
+    put_same (task_of program.nodes) m n k new old found (ap (λ x. made x new.forks) place ∙ ap (made (place_of program.nodes old.frames.items)) forks) put
+
+pub advanced : (program : Parts) (m n : BTreeMap Name Task) (k : Name) (old t new : Task) → looked_up (slice_cmp nat_cmp) m k ≡ Some old → looked_up (slice_cmp nat_cmp) m k ≡ Some t
+    → Updates (slice_cmp nat_cmp) m n k (Some new) → place_of program.nodes new.frames.items ≡ place_after (act_in program old) → new.forks ≡ old.forks
+    → map_of (task_of program.nodes) n ≡ insert (map_of (task_of program.nodes) m) k (record { place = place_after (act_in program t); forks = t.forks })
+advanced program m n k old t new found is put place forks =
+    let same : old ≡ t = cc in
+    let made : Place → ℕ → core.Task = λ x y. record { place = x; forks = y } in
+    put-map_of (task_of program.nodes) m n k new put
+    ∙ ap (insert (map_of (task_of program.nodes) m) k) (ap (λ x. made x new.forks) place ∙ ap (made (place_after (act_in program old))) forks ∙ ap (λ x. made (place_after (act_in program x)) x.forks) same)

@@ -3,10 +3,12 @@
 
 mod configurations;
 mod events;
+mod looking;
 mod stepping;
 
 pub use configurations::{Config, Put, Puts, Store, Stores};
 pub use events::{Ending, Entries, Entry, Event, Stepped};
+pub use looking::look;
 pub use machine_tasks::{
     Act, Bind, Binds, Channel, Frame, Frames, Halt, Sending, StuckWhy, Task, Tasks, Twins, Value,
 };

@@ -1,17 +1,33 @@
-use Rattle.std.proofs.Common.{◌≡◌, Some, rules, refl, sym, ap, ◌∙◌}
+use Rattle.std.proofs.Common.{◌≡◌, Some, rules, sym, ap, ◌∙◌}
 use Rattle.std.specs.Ordering.{nat_cmp}
 use Rattle.std.specs.Cmp.Lexicographic.{slice_cmp}
-use Rattle.std.specs.FinMap.{insert}
 use Rattle.std.specs.BTreeMap.{get as looked_up}
-use Rattle.core_language.specs.Configurations.{Place, Task}
-use Rattle.core_language.specs.Configurations as core
-use Rattle.machine_tasks.specs.declared.tasks.Task as machine
-use Rattle.machine_tasks.specs.Moving.{place_after}
-use Rattle.machine_tasks.specs.Reading.{act_in, task_of, place_of}
-use Rattle.chan_machine.specs.Reading.{map_of}
-use Rattle.chan_machine.proofs.Maps.{put-map_of}
-use Rattle.chan_machine.proofs.Keeping.{put_same, fits_put}
+use Rattle.chan_machine.proofs.Keeping.{advanced, stayed, fits_put}
+use Rattle.machine_tasks.proofs.Places.{on_err}
 use Rattle.chan_machine.proofs.stepping.advance.Goals as goal
 
 pub advance-requires : goal.advance-requires
 advance-requires c = record { fits = (c.requires.fits c.args.name.now c.in-Some.task.now (search rules)).1 }
+
+pub returns-in_err-advance-clause-err : goal.returns-in_err-advance-clause-err
+returns-in_err-advance-clause-err c =
+    on_err c.from_residual.result _ (stayed c.args.program.now c.args.tasks.now (c.get_mut.follows.lender c.advance.new.self) c.args.name.now c.in-Some.task.now c.advance.new.self
+    (search rules) ((c.get_mut.follows.holds c.advance.new.self).3 (search rules)) c.in_err-advance.ensures.err c.advance.ensures.forks)
+
+pub returns-in_err-advance-clause-fits : goal.returns-in_err-advance-clause-fits
+returns-in_err-advance-clause-fits c =
+    fits_put c.args.program.now c.args.tasks.now (c.get_mut.follows.lender c.advance.new.self) c.args.name.now c.advance.new.self c.requires.fits ((c.get_mut.follows.holds c.advance.new.self).3 (search rules))
+    (c.advance.ensures.name ∙ (c.requires.fits c.args.name.now c.in-Some.task.now (search rules)).0) c.advance.ensures.fits
+
+pub returns-in_ok-advance-clause-fits : goal.returns-in_ok-advance-clause-fits
+returns-in_ok-advance-clause-fits c =
+    fits_put c.args.program.now c.args.tasks.now (c.get_mut.follows.lender c.advance.new.self) c.args.name.now c.advance.new.self c.requires.fits ((c.get_mut.follows.holds c.advance.new.self).3 (search rules))
+    (c.advance.ensures.name ∙ (c.requires.fits c.args.name.now c.in-Some.task.now (search rules)).0) c.advance.ensures.fits
+
+pub returns-in_ok-advance-clause-ok : goal.returns-in_ok-advance-clause-ok
+returns-in_ok-advance-clause-ok c = λ t found.
+    advanced c.args.program.now c.args.tasks.now (c.get_mut.follows.lender c.advance.new.self) c.args.name.now c.in-Some.task.now t c.advance.new.self
+    (search rules) found ((c.get_mut.follows.holds c.advance.new.self).3 (search rules)) c.in_ok-advance.ensures.place c.advance.ensures.forks
+
+pub returns-in_default-clause-fits : goal.returns-in_default-clause-fits
+returns-in_default-clause-fits c = λ p t found. c.requires.fits p t (ap (λ m. looked_up (slice_cmp nat_cmp) m p) (sym c.get_mut.follows.holds-at-none) ∙ found)
