@@ -1,14 +1,15 @@
 -- What the effect of an act is, by its kind.
-use Rattle.std.proofs.Common.{◌≡◌, ℕ, suc, ℤ, List, [], ◌∷◌, ◌++◌, Option, Some, None, refl, sym, ap, ◌∙◌}
+use Rattle.std.proofs.Common.{◌≡◌, ℕ, suc, false, ℤ, List, [], ◌∷◌, ◌++◌, Option, Some, None, refl, sym, ap, ◌∙◌}
 use Rattle.std.specs.Option.{option_map}
-use Rattle.std.specs.Ordering.{nat_cmp}
+use Rattle.std.specs.Ordering.{nat_cmp, eq_by_cmp}
 use Rattle.std.specs.Cmp.Lexicographic.{slice_cmp}
 use Rattle.std.specs.FinMap.{get, insert, remove}
 use Rattle.std.specs.BTreeMap.{BTreeMap, get as looked_up}
 use Rattle.core_language.specs.Names.{Name, NameMap}
 use Rattle.core_language.specs.Values.{Value}
 use Rattle.core_language.specs.Computing.{Halt, StuckWhy, FullChannel, NoChannel, machine}
-use Rattle.core_language.specs.Configurations.{Config, Place, Ended}
+use Rattle.core_language.specs.Configurations.{Config, Place}
+use Rattle.core_language.specs.Configurations as core
 use Rattle.core_language.specs.Acts.{Act, act_of}
 use Rattle.core_language.specs.Acts as act
 use Rattle.core_language.specs.Steps.{Step, Moves, Waits, IsEnded, IsAbsent, IsHalted, IsStuck, Silent, Print, End, with_task, sent, received, forked, effect, step_at, machine_step}
@@ -25,6 +26,7 @@ use Rattle.machine_tasks.specs.Reading.{act_in, place_of, task_of, value_as}
 use Rattle.chan_machine.specs.declared.events.Stepped.{Stepped}
 use Rattle.chan_machine.specs.Reading.{map_of, step_of}
 use Rattle.chan_machine.proofs.Maps.{get-map_of}
+use Rattle.chan_machine.proofs.Keeping.{put_swapped}
 
 module _ (C : Config) (p : Name) (k : ℕ) where
   pub silent_effect : (a : Act) → kind.Silent ≡ kind_of a → effect C p k a ≡ Moves (with_task C p (place_after a) k) Silent
@@ -177,3 +179,36 @@ pub print_answer : (C : Config) (p : Name) (k : ℕ) (a : Act) (z y : ℤ) (s : 
 print_answer C p k a z y s is shows same =
     let after : Config = record (with_task C p (place_after a) k) { prints = C.prints ++ (p, z) ∷ [] } in
     (after, print_effect C p k a z is ∙ ap (λ x. Moves after (Print x)) same ∙ sym (shows after))
+
+module _ (C : Config) (p : Name) (k : ℕ) (a : Act) (tasks : NameMap core.Task) (channels : NameMap (Option Value)) where
+  pub sends_now : (c d : Name) (v : Value) (place : Place) → a ≡ act.Send d v place → Some c ≡ channel_in a → get C.channels c ≡ Some None → tasks ≡ insert C.tasks p (record { place = place; forks = k })
+      → channels ≡ insert C.channels c (Some v) → effect C p k a ≡ Moves (record { tasks = tasks; channels = channels; prints = C.prints }) (step.Send c)
+  sends_now c d v place is at got ts cs =
+      let ends : Some c ≡ Some d = at ∙ ap channel_in is in
+      let same : d ≡ c = cc in
+      ap (effect C p k) is ∙ ap (λ e. sent C p k e v place (get C.channels e)) same ∙ ap (sent C p k c v place) got
+      ∙ ap (λ x. Moves (record { tasks = x; channels = insert C.channels c (Some v); prints = C.prints }) (step.Send c)) (sym ts)
+      ∙ ap (λ x. Moves (record { tasks = tasks; channels = x; prints = C.prints }) (step.Send c)) (sym cs)
+
+  pub receives_now : (c d : Name) (v : Value) (place : Value → Place) → a ≡ act.Recv d place → Some c ≡ channel_in a → get C.channels c ≡ Some (Some v)
+      → tasks ≡ insert C.tasks p (record { place = place v; forks = k }) → channels ≡ remove C.channels c → effect C p k a ≡ Moves (record { tasks = tasks; channels = channels; prints = C.prints }) (step.Recv c)
+  receives_now c d v place is at got ts cs =
+      let ends : Some c ≡ Some d = at ∙ ap channel_in is in
+      let same : d ≡ c = cc in
+      ap (effect C p k) is ∙ ap (λ e. received C p k e place (get C.channels e)) same ∙ ap (received C p k c place) got
+      ∙ ap (λ x. Moves (record { tasks = x; channels = remove C.channels c; prints = C.prints }) (step.Recv c)) (sym ts)
+      ∙ ap (λ x. Moves (record { tasks = tasks; channels = x; prints = C.prints }) (step.Recv c)) (sym cs)
+
+  pub forks_now : (c e : Name) (parent its : Place) → a ≡ act.Fork c parent its → eq_by_cmp (slice_cmp nat_cmp) c p ≡ false
+      → tasks ≡ insert (insert C.tasks c (record { place = its; forks = 0 })) p (record { place = parent; forks = suc k })
+      → channels ≡ insert C.channels c None → e ≡ c → effect C p k a ≡ Moves (record { tasks = tasks; channels = channels; prints = C.prints }) (step.Fork e)
+  forks_now c e parent its is off ts cs same =
+      ap (effect C p k) is
+      ∙ ap (λ x. Moves (record { tasks = x; channels = insert C.channels c None; prints = C.prints }) (step.Fork c))
+      (put_swapped C.tasks p c (record { place = parent; forks = suc k }) (record { place = its; forks = 0 }) off ∙ sym ts)
+      ∙ ap (λ x. Moves (record { tasks = tasks; channels = x; prints = C.prints }) (step.Fork c)) (sym cs)
+      ∙ ap (λ x. Moves (record { tasks = tasks; channels = channels; prints = C.prints }) (step.Fork x)) (sym same)
+
+-- one task is found under a name
+pub one_task : (m : BTreeMap Name Task) (p : Name) (t u : Task) → looked_up (slice_cmp nat_cmp) m p ≡ Some t → looked_up (slice_cmp nat_cmp) m p ≡ Some u → t ≡ u
+one_task m p t u one two = let both = sym one ∙ two in cc

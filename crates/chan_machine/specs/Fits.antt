@@ -7,6 +7,7 @@ use Rattle.core_language.specs.Names.{Name}
 use Rattle.core_programs.specs.declared.nodes.Parts.{Parts}
 use Rattle.machine_tasks.specs.declared.tasks.Task.{Task}
 use Rattle.machine_tasks.specs.Fits.{FramesFit}
+use Rattle.machine_tasks.specs.Moving.{HasRoom}
 use Rattle.chan_machine.specs.declared.events.Stepped.{Stepped}
 use Rattle.chan_machine.specs.declared.events.Stepped.TheVariants as stepped
 use Rattle.chan_machine.specs.declared.configurations.Config.{Config}
@@ -19,9 +20,17 @@ abbrev pub Fits : Parts → Config → Type 0
 Fits program config = TasksFit program config.tasks
 
 -- the task has made fewer forks than there are numbers for them
-abbrev pub CanFork : Config → Name → Type 0
-CanFork config p = (t : Task) → get (slice_cmp nat_cmp) config.tasks p ≡ Some t → t.forks < 4294967295
+abbrev pub ForksAt : BTreeMap Name Task → Name → Type 0
+ForksAt tasks p = (t : Task) → get (slice_cmp nat_cmp) tasks p ≡ Some t → t.forks < 4294967295
 
 abbrev pub is_moved : Stepped → Bool
 is_moved (stepped.Moved event) = true
 is_moved other = false
+
+-- the task's top frame has room for one more variable
+abbrev pub RoomAt : BTreeMap Name Task → Name → Type 0
+RoomAt tasks p = (t : Task) → get (slice_cmp nat_cmp) tasks p ≡ Some t → HasRoom t.frames.items 1
+
+abbrev pub IsHalt : Stepped → Type 0
+IsHalt (stepped.Halts why) = Unit {0}
+IsHalt other = ⊥

@@ -3,7 +3,9 @@
 
 mod configurations;
 mod events;
+mod exchanging;
 mod looking;
+mod running;
 mod stepping;
 
 pub use configurations::{Config, Put, Puts, Store, Stores};
@@ -12,4 +14,5 @@ pub use looking::look;
 pub use machine_tasks::{
     Act, Bind, Binds, Channel, Frame, Frames, Halt, Sending, StuckWhy, Task, Tasks, Twins, Value,
 };
+pub use running::step;
 pub use stepping::start;

@@ -1,21 +1,23 @@
 //! Steps of a configuration.
-ghost use Rattle.std.specs.Prelude.{◌≡◌, Some, IfOk, OnOk, OnErr};
+ghost use Rattle.std.specs.Prelude.{◌≡◌, ◌<◌, ◌++◌, ◌∷◌, [], suc, Some, IsSome, length, IfOk, OnOk, OnErr};
 ghost use Rattle.std.specs.Ordering.{nat_cmp};
 ghost use Rattle.std.specs.Cmp.Lexicographic.{slice_cmp};
 ghost use Rattle.std.specs.FinMap.{insert};
-ghost use Rattle.std.specs.BTreeMap.{get as looked_up};
+ghost use Rattle.std.specs.BTreeMap.{Updates, get as looked_up};
 ghost use Rattle.core_language.specs.Configurations.{start as start_of};
+ghost use Rattle.core_programs.specs.declared.nodes.Parts.{Parts};
 ghost use Rattle.core_programs.specs.Bodies.{program_of};
 ghost use Rattle.machine_tasks.specs.declared.tasks.Task.{Task};
-ghost use Rattle.machine_tasks.specs.Moving.{place_after};
-ghost use Rattle.machine_tasks.specs.Reading.{act_in, task_of};
-ghost use Rattle.chan_machine.specs.Reading.{config_of, map_of};
-ghost use Rattle.chan_machine.specs.Fits.{Fits, TasksFit};
+ghost use Rattle.machine_tasks.specs.Moving.{at_node, place_after};
+ghost use Rattle.machine_tasks.specs.Reading.{act_in, place_of, task_of, value_as};
+ghost use Rattle.machine_tasks.specs.Sharing.{place_with};
+ghost use Rattle.chan_machine.specs.Reading.{config_of, map_of, prints_of};
+ghost use Rattle.chan_machine.specs.Fits.{Fits, ForksAt, RoomAt, TasksFit};
 
-use crate::configurations::Config;
+use crate::configurations::{Config, Put, Puts};
 use chan_base::{Memory, Name};
 use core_programs::Program;
-use machine_tasks::Task;
+use machine_tasks::{Bind, Task, Value};
 use sqlite_items::Items;
 use std::alloc::Global;
 use std::collections::BTreeMap;
@@ -36,7 +38,7 @@ pub fn start(alloc: Global, program: &Program) -> Result<Config, Memory>
 }
 
 /// The task with this name makes its step by itself.
-fn advance(
+pub(crate) fn advance(
     alloc: Global,
     program: &Program,
     tasks: &mut BTreeMap<Name, Task>,
@@ -52,4 +54,109 @@ fn advance(
         task.advance(alloc, program)?;
     }
     Ok(())
+}
+
+/// The task with this name makes its step, which prints the number.
+pub(crate) fn print(
+    alloc: Global,
+    program: &Program,
+    tasks: &mut BTreeMap<Name, Task>,
+    prints: &mut Puts,
+    name: &Name,
+    number: i64,
+) -> Result<(), Memory>
+    requires fits { TasksFit program.now tasks.old }
+    ensures ok { (t : Task) → looked_up (slice_cmp nat_cmp) tasks.old name.now ≡ Some t
+        → OnOk result (map_of (task_of program.now.nodes) tasks.new ≡ insert (map_of (task_of program.now.nodes) tasks.old) name.now (record { place = place_after (act_in program.now t); forks = t.forks })) }
+    ensures prints { OnOk result (prints_of prints.new ≡ prints_of prints.old ++ (name.now, number) ∷ []) }
+    ensures err { OnErr result (map_of (task_of program.now.nodes) tasks.new ≡ map_of (task_of program.now.nodes) tasks.old) }
+    ensures unprinted { OnErr result (prints.new ≡ prints.old) }
+    ensures fits { TasksFit program.now tasks.new }
+{
+    let copy = name.copy(alloc)?;
+    prints.push(Put { name: copy, number })?;
+    match advance(alloc, program, tasks, name) {
+        Ok(()) => Ok(()),
+        Err(_) => {
+            let _put = prints.pop();
+            Err(Memory)
+        }
+    }
+}
+
+/// The channel is Full with the value from now on.
+pub(crate) fn fill(channels: &mut BTreeMap<Name, Option<Value>>, channel: &Name, value: Value)
+    requires { IsSome (looked_up (slice_cmp nat_cmp) channels.old channel.now) }
+    ensures { Updates (slice_cmp nat_cmp) channels.old channels.new channel.now (Some (Some value)) }
+{
+    if let Some(slot) = channels.get_mut(channel) {
+        *slot = Some(value);
+    }
+}
+
+/// The task with this name goes on at the node.
+pub(crate) fn move_on(program: &Program, tasks: &mut BTreeMap<Name, Task>, name: &Name, node: u32)
+    requires node { node < length program.now.nodes }
+    requires fits { TasksFit program.now tasks.old }
+    ensures moves { (t : Task) → looked_up (slice_cmp nat_cmp) tasks.old name.now ≡ Some t
+        → map_of (task_of program.now.nodes) tasks.new ≡ insert (map_of (task_of program.now.nodes) tasks.old) name.now (record { place = at_node program.now.nodes node (place_of program.now.nodes t.frames.items); forks = t.forks }) }
+    ensures fits { TasksFit program.now tasks.new }
+{
+    if let Some(task) = tasks.get_mut(name) {
+        task.go_on(program, node);
+    }
+}
+
+/// Room for one more variable in the top frame of the task with this name.
+pub(crate) fn make_room(tasks: &mut BTreeMap<Name, Task>, name: &Name) -> Result<(), Memory>
+    ensures same { (program : Parts) → map_of (task_of program.nodes) tasks.new ≡ map_of (task_of program.nodes) tasks.old }
+    ensures room { OnOk result (RoomAt tasks.new name.now) }
+    ensures forks { ForksAt tasks.old name.now → ForksAt tasks.new name.now }
+    ensures fits { (program : Parts) → TasksFit program tasks.old → TasksFit program tasks.new }
+{
+    if let Some(task) = tasks.get_mut(name) {
+        task.make_room(1)?;
+    }
+    Ok(())
+}
+
+/// The task with this name, which has room, goes on with one more variable.
+pub(crate) fn accept(
+    program: &Program,
+    tasks: &mut BTreeMap<Name, Task>,
+    name: &Name,
+    bind: Bind,
+    node: u32,
+)
+    requires node { node < length program.now.nodes }
+    requires room { RoomAt tasks.old name.now }
+    requires fits { TasksFit program.now tasks.old }
+    ensures moves { (t : Task) → looked_up (slice_cmp nat_cmp) tasks.old name.now ≡ Some t
+        → map_of (task_of program.now.nodes) tasks.new ≡ insert (map_of (task_of program.now.nodes) tasks.old) name.now (record { place = place_with program.now.nodes bind.name (value_as bind.value) node (place_of program.now.nodes t.frames.items); forks = t.forks }) }
+    ensures fits { TasksFit program.now tasks.new }
+{
+    if let Some(task) = tasks.get_mut(name) {
+        task.accept(program, bind, node);
+    }
+}
+
+/// The task with this name, which has room, goes on after its fork.
+pub(crate) fn branch(
+    program: &Program,
+    tasks: &mut BTreeMap<Name, Task>,
+    name: &Name,
+    end: Bind,
+    node: u32,
+)
+    requires node { node < length program.now.nodes }
+    requires room { RoomAt tasks.old name.now }
+    requires forks { ForksAt tasks.old name.now }
+    requires fits { TasksFit program.now tasks.old }
+    ensures moves { (t : Task) → looked_up (slice_cmp nat_cmp) tasks.old name.now ≡ Some t
+        → map_of (task_of program.now.nodes) tasks.new ≡ insert (map_of (task_of program.now.nodes) tasks.old) name.now (record { place = place_with program.now.nodes end.name (value_as end.value) node (place_of program.now.nodes t.frames.items); forks = suc t.forks }) }
+    ensures fits { TasksFit program.now tasks.new }
+{
+    if let Some(task) = tasks.get_mut(name) {
+        task.branch(program, end, node);
+    }
 }
