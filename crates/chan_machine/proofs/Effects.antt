@@ -212,3 +212,12 @@ module _ (C : Config) (p : Name) (k : ℕ) (a : Act) (tasks : NameMap core.Task)
 -- one task is found under a name
 pub one_task : (m : BTreeMap Name Task) (p : Name) (t u : Task) → looked_up (slice_cmp nat_cmp) m p ≡ Some t → looked_up (slice_cmp nat_cmp) m p ≡ Some u → t ≡ u
 one_task m p t u one two = let both = sym one ∙ two in cc
+
+-- the effect of an act that prints the number, as it was made
+pub prints_now : (C : Config) (p : Name) (k : ℕ) (a : Act) (tasks : NameMap core.Task) (puts : List (Name × ℤ)) (z w y : ℤ) (s : Stepped) → kind.Print z ≡ kind_of a
+    → tasks ≡ insert C.tasks p (record { place = place_after a; forks = k }) → puts ≡ C.prints ++ (p, w) ∷ [] → ((D : Config) → step_of D s ≡ Moves D (Print y)) → z ≡ w → z ≡ y
+    → effect C p k a ≡ step_of (record { tasks = tasks; channels = C.channels; prints = puts }) s
+prints_now C p k a tasks puts z w y s is ts ps shows same other =
+    let made : NameMap core.Task → List (Name × ℤ) → ℤ → Step = λ x ys v. Moves (record { tasks = x; channels = C.channels; prints = ys }) (Print v) in
+    print_effect C p k a z is ∙ ap (λ v. made (insert C.tasks p (record { place = place_after a; forks = k })) (C.prints ++ (p, v) ∷ []) z) same
+    ∙ ap (λ x. made x (C.prints ++ (p, w) ∷ []) z) (sym ts) ∙ ap (λ ys. made tasks ys z) (sym ps) ∙ ap (made tasks puts) other ∙ sym (shows (record { tasks = tasks; channels = C.channels; prints = puts }))

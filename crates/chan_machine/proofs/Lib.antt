@@ -1,3 +1,4 @@
 pub mod Maps
 pub mod Keeping
 pub mod Effects
+pub mod Limits

@@ -92,11 +92,7 @@ pub(crate) fn receive(
 }
 
 /// The channel, which is there, as it was before.
-fn restore(
-    channels: &mut BTreeMap<Name, Option<Value>>,
-    name: Name,
-    old: Option<Option<Value>>,
-)
+fn restore(channels: &mut BTreeMap<Name, Option<Value>>, name: Name, old: Option<Option<Value>>)
     requires { IsSome (looked_up (slice_cmp nat_cmp) channels.old name) }
     ensures { Updates (slice_cmp nat_cmp) channels.old channels.new name old }
 {

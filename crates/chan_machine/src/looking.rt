@@ -1,5 +1,5 @@
 //! What a step would answer.
-ghost use Rattle.std.specs.Prelude.{◌≡◌, ℕ, Some, IfOk};
+ghost use Rattle.std.specs.Prelude.{◌≡◌, ℕ, true, Some, IfOk};
 ghost use Rattle.std.specs.Option.{option_map};
 ghost use Rattle.core_language.specs.Names.{Name as NameOf};
 ghost use Rattle.core_language.specs.Acts.{Act as ActOf};
@@ -9,7 +9,7 @@ ghost use Rattle.core_programs.specs.Bodies.{program_of};
 ghost use Rattle.machine_tasks.specs.Channels.{channel_in};
 ghost use Rattle.machine_tasks.specs.Kinds.{kind_of, Send, Recv};
 ghost use Rattle.machine_tasks.specs.Reading.{value_as};
-ghost use Rattle.chan_machine.specs.Fits.{Fits};
+ghost use Rattle.chan_machine.specs.Fits.{Fits, is_moved};
 ghost use Rattle.chan_machine.specs.Looking.{Answers};
 ghost use Rattle.chan_machine.specs.Reading.{config_of, map_of, step_of};
 
@@ -57,7 +57,8 @@ fn look_receive(
 
 /// The answer of a step that prints the number.
 pub(crate) fn printed(number: i64) -> Stepped
-    ensures { (C : ConfigOf) → step_of C result ≡ Moves C (Print number) }
+    ensures shows { (C : ConfigOf) → step_of C result ≡ Moves C (Print number) }
+    ensures moved { is_moved result ≡ true }
 {
     Stepped::Moved(Event::Print(number))
 }

@@ -37,7 +37,7 @@ returns-in-Print c =
     let a = act_in program t in
     let found : looked_up (slice_cmp nat_cmp) config.tasks p ≡ Some t = search rules in
     let here = steps_here program config.tasks (map_of (option_map value_as) config.channels) (prints_of config.prints) p t found (c.requires.fits p t found).0 in
-    let (after, e) = print_answer C p t.forks a c.in-Print.number _ c.printed.result c.in-Print.ensures c.printed.ensures (search (rules, ints)) in
+    let (after, e) = print_answer C p t.forks a c.in-Print.number _ c.printed.result c.in-Print.ensures c.printed.ensures.shows (search (rules, ints)) in
     (after, here ∙ e)
 
 pub returns-in-End : goal.returns-in-End
