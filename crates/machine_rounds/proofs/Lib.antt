@@ -1,0 +1,4 @@
+pub mod Ready
+pub mod Sorted
+pub mod Round
+pub mod Local
