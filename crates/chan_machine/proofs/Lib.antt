@@ -2,3 +2,4 @@ pub mod Maps
 pub mod Keeping
 pub mod Effects
 pub mod Limits
+pub mod Parked

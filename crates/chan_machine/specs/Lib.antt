@@ -1,3 +1,4 @@
 pub mod Reading
 pub mod Fits
 pub mod Looking
+pub mod Parking

@@ -7,6 +7,7 @@ mod exchanging;
 mod looking;
 mod running;
 mod stepping;
+mod waiting;
 
 pub use configurations::{Config, Put, Puts, Store, Stores};
 pub use events::{Ending, Entries, Entry, Event, Stepped};
