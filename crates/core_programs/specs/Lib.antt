@@ -1,2 +1,4 @@
 pub mod Bodies
 pub mod Formed
+pub mod Trees
+pub mod Passes

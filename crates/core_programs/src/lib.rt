@@ -1,8 +1,14 @@
 //! Core programs: functions whose bodies are numbered nodes, and what makes a program well formed.
 #![tactic(auto)]
 
+mod bodies;
+mod mains;
 mod nodes;
+mod passes;
+mod tables;
+mod walking;
 mod wellformed;
 
+pub use form_faults::{Ill, IllKind};
 pub use nodes::{Func, Funcs, Node, Nodes, Parts};
-pub use wellformed::{BuildFault, Ill, IllKind, Program};
+pub use wellformed::{BuildFault, Program};
