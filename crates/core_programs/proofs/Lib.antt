@@ -5,3 +5,4 @@ pub mod ReadSupplies
 pub mod Growing
 pub mod Walks
 pub mod Patterns
+pub mod Verdicts

@@ -2,3 +2,4 @@ pub mod Bodies
 pub mod Formed
 pub mod Trees
 pub mod Passes
+pub mod Form

@@ -2,6 +2,7 @@
 #![tactic(auto)]
 
 mod bodies;
+mod forms;
 mod mains;
 mod nodes;
 mod passes;
@@ -10,5 +11,6 @@ mod walking;
 mod wellformed;
 
 pub use form_faults::{Ill, IllKind};
+pub use forms::first_fault;
 pub use nodes::{Func, Funcs, Node, Nodes, Parts};
 pub use wellformed::{BuildFault, Program};
