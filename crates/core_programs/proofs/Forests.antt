@@ -14,7 +14,7 @@ use Rattle.core_programs.specs.Bodies.{span_of, opened, opened_at, rest_within, 
 use Rattle.core_programs.specs.Formed.{nexts, Leads, Reaches, IsNumbered}
 
 -- every walk from the number ends within the depth
-abbrev Ends : ℕ → List Node → ℕ → Type 0
+abbrev pub Ends : ℕ → List Node → ℕ → Type 0
 Ends zero nodes n = ⊥
 Ends (suc d) nodes n = (x : Node) × (slice_get nodes n ≡ Some x) × ((k m : ℕ) → slice_get (nexts x) k ≡ Some m → Ends d nodes m)
 
@@ -76,7 +76,7 @@ module _ (parts : Parts) (formed : IsNumbered parts) (f : ℕ) where
       let equal : length before ≡ length turns = ap length (two ∙ sym one) in
       omega (arith, equal, less))
 
-  ends : (d n : ℕ) (turns seen : List ℕ) → n < length parts.nodes → Reaches parts f turns n → AllByRecursion (Earlier turns) seen → IsDistinct eqb seen
+  pub ends : (d n : ℕ) (turns seen : List ℕ) → n < length parts.nodes → Reaches parts f turns n → AllByRecursion (Earlier turns) seen → IsDistinct eqb seen
       → length parts.nodes ≤ d + length seen → Ends d parts.nodes n
   unfolding IsDistinct
   ends zero n turns seen lt reach earlier distinct long =
@@ -110,7 +110,7 @@ opens (suc d) nodes n x (y, has, after) is =
     ∙ opened_same x (rest_within d nodes) (rest_within (suc d) nodes)
     (λ k m at. sym (deeper d (suc d) nodes m (after k m (subst (λ z. slice_get (nexts z) k ≡ Some m) (sym same) at)) (omega arith)))
 
-nothing_distinct : IsDistinct eqb []
+pub nothing_distinct : IsDistinct eqb []
 unfolding IsDistinct
 nothing_distinct = tt
 

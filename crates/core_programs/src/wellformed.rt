@@ -5,29 +5,8 @@ ghost use Rattle.core_programs.specs.Bodies.{opened, rest, func_named};
 ghost use Rattle.core_programs.specs.Formed.{IsFormed, HasDivisor, LeadBelow};
 
 use crate::nodes::{Func, Node, Parts};
-use chan_syntax::{Idents, Span};
+use form_faults::Ill;
 use std::marker::Model;
-
-/// What is wrong with a form.
-#[derive(Clone, Copy, Debug, PartialEq, Eq)]
-pub enum IllKind {
-    UnknownName,
-    Twice,
-    Arity,
-    NoMain,
-    Unscoped,
-    Unguarded,
-    TooMany,
-    BadNumber,
-    WrongSession,
-}
-
-#[derive(Drop)]
-pub struct Ill {
-    pub kind: IllKind,
-    pub names: Idents,
-    pub span: Span,
-}
 
 #[derive(Drop)]
 pub enum BuildFault {

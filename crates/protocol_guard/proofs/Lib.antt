@@ -1,0 +1,5 @@
+pub mod Codes
+pub mod Ways
+pub mod Searching
+pub mod Repeats
+pub mod Tables

@@ -1,0 +1,5 @@
+pub mod Guards
+pub mod Searches
+pub mod Places
+pub mod Cycles
+pub mod Faults
