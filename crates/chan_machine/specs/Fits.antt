@@ -1,5 +1,5 @@
 -- When a program fits a configuration of the machine.
-use Rattle.std.specs.Prelude.{◌≡◌, ℕ, ◌<◌, Bool, true, false, Some}
+use Rattle.std.specs.Prelude.{◌≡◌, ◌<◌, Bool, true, false, Some}
 use Rattle.std.specs.Ordering.{nat_cmp}
 use Rattle.std.specs.Cmp.Lexicographic.{slice_cmp}
 use Rattle.std.specs.BTreeMap.{BTreeMap, get}

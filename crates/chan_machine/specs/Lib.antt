@@ -2,3 +2,4 @@ pub mod Reading
 pub mod Fits
 pub mod Looking
 pub mod Parking
+pub mod Turning

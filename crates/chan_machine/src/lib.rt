@@ -5,8 +5,13 @@ mod configurations;
 mod events;
 mod exchanging;
 mod looking;
+mod moving;
+mod rounds;
 mod running;
+mod runs;
+mod sifting;
 mod stepping;
+mod turning;
 mod waiting;
 
 pub use configurations::{Config, Put, Puts, Store, Stores};

@@ -2,15 +2,9 @@
 ghost use Rattle.std.specs.Prelude.{◌≡◌, ◌||◌, ◌&&◌, not, List, ℕ, OnOk};
 ghost use Rattle.chan_machine.specs.Parking.{is_ready, same, waits};
 
+use crate::runs::{Ready, Waiting};
 use chan_base::{Memory, Name};
 use std::alloc::Global;
-use std::collections::{BTreeMap, BTreeSet};
-
-/// For each channel the tasks that don't move and whose next act looks at it.
-pub(crate) type Waiting = BTreeMap<Name, Vec<Name>>;
-
-/// The tasks that may move in the next round.
-pub(crate) type Ready = BTreeSet<Name>;
 
 /// From now on this task waits at the channel, beside those that do.
 pub(crate) fn park(

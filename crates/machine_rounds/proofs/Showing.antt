@@ -107,7 +107,7 @@ module _ (program : Program) (time : ℕ) where
       → ((c q : Name) → waits c q ≡ true → waits_later c q ≡ true) → Parked run (p ∷ rest) ready waits → Parked next rest later waits_later
   parked_still run next p rest ready later waits waits_later same_run put waiting parked = subst (λ r. Parked r rest later waits_later) (sym same_run)
       (λ q dead. let (still, waits_now) = parked q (by (same p q) (same q p) ((eq_by_cmp_equiv nat_list_cmp_total).symm p q) (has (slice_cmp nat_cmp) rest q) (ready q) (ap (λ b. has (slice_cmp nat_cmp) rest q || b) (sym (put q)) ∙ dead)) in
-        (still, λ c e. waiting c q (waits_now c e)))
+      (still, λ c e. waiting c q (waits_now c e)))
     where
       by : (a b : Bool) → a ≡ b → (h r : Bool) → (h || cond a true r) ≡ false → ((b || h) || r) ≡ false
       by true true e true r d = d

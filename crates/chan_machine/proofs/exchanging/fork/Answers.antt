@@ -1,10 +1,10 @@
-use Rattle.std.proofs.Common.{◌≡◌, ◌++◌, ◌∷◌, [], ℕ, suc, Some, None, rules, refl, sym, ap, ◌∙◌}
+use Rattle.std.proofs.Common.{◌≡◌, suc, Some, None, rules, sym, ap, ◌∙◌}
 use Rattle.std.specs.Option.{option_map}
 use Rattle.std.specs.Ordering.{nat_cmp}
 use Rattle.std.specs.Cmp.Lexicographic.{slice_cmp}
 use Rattle.std.specs.FinMap.{insert}
 use Rattle.std.specs.BTreeMap.{get as looked_up}
-use Rattle.core_language.specs.Names.{Name, NameMap, child}
+use Rattle.core_language.specs.Names.{NameMap, child}
 use Rattle.core_language.specs.Configurations as core
 use Rattle.core_language.specs.Acts as act
 use Rattle.core_language.specs.Steps.{effect}

@@ -2,13 +2,11 @@ use Rattle.std.proofs.Common.{◌≡◌, Some, None, rules, refl, sym, ap, ◌�
 use Rattle.std.specs.Option.{option_map}
 use Rattle.std.specs.Ordering.{nat_cmp}
 use Rattle.std.specs.Cmp.Lexicographic.{slice_cmp}
-use Rattle.std.specs.FinMap.{insert}
 use Rattle.std.specs.BTreeMap.{get as looked_up}
 use Rattle.core_language.specs.Steps.{effect}
 use Rattle.machine_tasks.specs.declared.tasks.Task.{Task}
 use Rattle.machine_tasks.specs.Channels.{channel_in}
-use Rattle.machine_tasks.specs.Reading.{act_in, place_of, task_of, value_as}
-use Rattle.machine_tasks.specs.Sharing.{place_with}
+use Rattle.machine_tasks.specs.Reading.{act_in, task_of, value_as}
 use Rattle.chan_machine.specs.Reading.{config_of, map_of}
 use Rattle.chan_machine.proofs.Maps.{take-map_of}
 use Rattle.chan_machine.proofs.Effects.{waits_at, no_receive, channel_has, receives_now, one_task}

@@ -1,4 +1,4 @@
-use Rattle.std.proofs.Common.{rules, ◌≡◌, refl, ap, sym, ◌∙◌}
+use Rattle.std.proofs.Common.{ap, sym, ◌∙◌}
 use Rattle.chan_machine.specs.Parking.{is_one, same}
 use Rattle.std.specs.List.{list_any}
 use Rattle.chan_machine.proofs.Parked.{waits-parked-at}

@@ -1,4 +1,4 @@
-use Rattle.std.proofs.Common.{rules, ◌≡◌, refl, ◌∙◌}
+use Rattle.std.proofs.Common.{rules, refl, ◌∙◌}
 use Rattle.chan_machine.proofs.Parked.{waits-taken, ready-step}
 use Rattle.chan_machine.proofs.waiting.wake.Goals as goal
 
