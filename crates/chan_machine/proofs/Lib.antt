@@ -1,8 +1,8 @@
-pub mod Frames
 pub mod Maps
-pub mod TaskSteps
-pub mod Alone
-pub mod FirstActs
-pub mod RoundOfOne
-pub mod EndingOfOne
-pub mod Samples
+pub mod Keeping
+pub mod Effects
+pub mod Limits
+pub mod Parked
+pub mod Sifted
+pub mod Turned
+pub mod Begun

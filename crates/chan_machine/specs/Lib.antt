@@ -1,4 +1,5 @@
 pub mod Reading
 pub mod Fits
-pub mod Runs
-pub mod Samples
+pub mod Looking
+pub mod Parking
+pub mod Turning

@@ -1,31 +1,18 @@
--- The machine's values, steps, tasks and configurations as the core language has them: cells, numbers of
--- nodes and the order of frames aside.
-use Rattle.std.specs.Prelude.{ℤ, List, [], ◌∷◌, map, reverse}
+-- The machine's steps and configurations as the core language has them.
+use Rattle.std.specs.Prelude.{ℤ, List, map, Option, Some, None}
 use Rattle.std.specs.Ordering.{nat_cmp}
 use Rattle.std.specs.Cmp.Lexicographic.{slice_cmp}
 use Rattle.std.specs.FinMap.{from_entries}
 use Rattle.std.specs.BTreeMap.{BTreeMap}
 use Rattle.std.specs.Option.{option_map}
 use Rattle.core_language.specs.Names.{Name, NameMap}
-use Rattle.core_language.specs.Values as core
-use Rattle.core_language.specs.Computing as computing
-use Rattle.core_language.specs.Programs.{Body}
-use Rattle.core_language.specs.Programs as body
 use Rattle.core_language.specs.Configurations as configuration
 use Rattle.core_language.specs.Steps as steps
 use Rattle.core_language.specs.Rounds as rounds
 use Rattle.core_language.specs.Endings as endings
-use Rattle.core_programs.specs.declared.nodes.Node.{Node}
 use Rattle.core_programs.specs.declared.nodes.Parts.{Parts}
-use Rattle.core_programs.specs.Bodies.{rest}
-use Rattle.chan_machine.specs.declared.values.Value.{Value, Int, Unit, Pair', Left', Right', End, Row_of-Value, end_of-Value, more_of-Value}
-use Rattle.chan_machine.specs.declared.tasks.Bind.{Bind}
-use Rattle.chan_machine.specs.declared.tasks.Frame.{Frame}
-use Rattle.chan_machine.specs.declared.tasks.Task.{Task}
-use Rattle.chan_machine.specs.declared.events.StuckWhy.{StuckWhy}
-use Rattle.chan_machine.specs.declared.events.StuckWhy.TheVariants as why
-use Rattle.chan_machine.specs.declared.events.Halt.{Halt}
-use Rattle.chan_machine.specs.declared.events.Halt.TheVariants as halt
+use Rattle.machine_tasks.specs.declared.values.Value.{Value}
+use Rattle.machine_tasks.specs.Reading.{value_as, why_of, halt_of, task_of}
 use Rattle.chan_machine.specs.declared.events.Event.{Event}
 use Rattle.chan_machine.specs.declared.events.Event.TheVariants as event
 use Rattle.chan_machine.specs.declared.events.Stepped.{Stepped}
@@ -36,37 +23,7 @@ use Rattle.chan_machine.specs.declared.events.Ending.TheVariants as ending
 use Rattle.chan_machine.specs.declared.configurations.Put.{Put}
 use Rattle.chan_machine.specs.declared.configurations.Config.{Config}
 
--- ---- values
-
-abbrev mutual
-  pub value_as : Value → core.Value
-  value_as (Int number) = core.Int number
-  value_as Unit = core.Unit
-  value_as (Pair' _ first _ second) = core.Pair (value_in first) (value_in second)
-  value_as (Left' _ value) = core.Left (value_in value)
-  value_as (Right' _ value) = core.Right (value_in value)
-  value_as (End channel) = core.End channel.name
-
-  -- what a box holds: a row of one value
-  pub value_in : {m : _} → Row_of-Value m → core.Value
-  value_in end_of-Value = core.Unit
-  value_in (more_of-Value value rest) = value_as value
-
 -- ---- steps
-
-abbrev pub why_of : StuckWhy → computing.StuckWhy
-why_of why.NotInt = computing.NotInt
-why_of why.NotEnd = computing.NotEnd
-why_of why.NotPair = computing.NotPair
-why_of why.NotSum = computing.NotSum
-why_of why.FullChannel = computing.FullChannel
-why_of why.NoChannel = computing.NoChannel
-why_of why.Absurd = computing.Absurd
-why_of why.Deep = computing.Deep
-
-abbrev pub halt_of : Halt → computing.Halt
-halt_of halt.Range = computing.Range
-halt_of halt.Depth = computing.Depth
 
 abbrev pub event_of : Event → steps.Event
 event_of event.Silent = steps.Silent
@@ -99,28 +56,6 @@ ending_as (ending.Leaked names) = endings.Leaked names
 
 -- ---- configurations
 
-abbrev pub env_of : List Bind → computing.Env
-env_of binds = map (λ b. (b.name, value_as b.value)) binds
-
--- a caller at a Call, which goes on after it with the result
-abbrev pub caller_at : Body → computing.Env → configuration.Caller
-caller_at (body.Call span pat func values proof next) env = record { name = pat.name; rest = next; env = env }
-caller_at other env = record { name = []; rest = other; env = env }
-
-abbrev pub caller_of : List Node → Frame → configuration.Caller
-caller_of nodes frame = caller_at (rest nodes frame.node) (env_of frame.binds)
-
--- the frames, from the top one to the bottom one, as a place
-abbrev pub place_from : List Node → List Frame → configuration.Place
-place_from nodes [] = configuration.Ended
-place_from nodes (top ∷ callers) = configuration.Running (rest nodes top.node) (env_of top.binds) (map (caller_of nodes) callers)
-
-abbrev pub place_of : List Node → List Frame → configuration.Place
-place_of nodes frames = place_from nodes (reverse frames)
-
-abbrev pub task_of : List Node → Task → configuration.Task
-task_of nodes task = record { place = place_of nodes task.frames; forks = task.forks }
-
 abbrev pub read_entry : {X Y : Type 0} → (X → Y) → Name × X → Name × Y
 read_entry f e = (e.0, f e.1)
 
@@ -137,3 +72,9 @@ config_of parts config = record {
   channels = map_of (option_map value_as) config.channels;
   prints = prints_of config.prints;
 }
+
+-- the value on a channel that is there and Full
+abbrev pub stored_in : Option (Option Value) → Option Value
+stored_in (Some (Some v)) = Some v
+stored_in (Some None) = None
+stored_in None = None

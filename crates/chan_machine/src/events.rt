@@ -1,28 +1,9 @@
 //! What steps show, and how runs end.
 use chan_base::{Name, Names};
+use machine_tasks::{Halt, StuckWhy};
 use sqlite_items::Items;
 
 pub type Entries = Items<Entry>;
-
-/// Why a task can make no step, now or ever.
-#[derive(Clone, Copy, Debug, PartialEq, Eq)]
-pub enum StuckWhy {
-    NotInt,
-    NotEnd,
-    NotPair,
-    NotSum,
-    FullChannel,
-    NoChannel,
-    Absurd,
-    Deep,
-}
-
-/// Why the machine can't make a task's step.
-#[derive(Clone, Copy, Debug, PartialEq, Eq)]
-pub enum Halt {
-    Range,
-    Depth,
-}
 
 #[derive(Debug, Drop)]
 pub enum Event {

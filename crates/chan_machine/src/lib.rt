@@ -1,18 +1,24 @@
-//! The machine on one thread: tasks, channels, steps, rounds and endings.
+//! The machine on one thread: configurations and their steps.
 #![tactic(auto)]
 
 mod configurations;
 mod events;
+mod exchanging;
+mod looking;
+mod moving;
+mod rounds;
 mod running;
+mod runs;
+mod sifting;
 mod stepping;
-mod tasks;
-#[cfg(test)]
-mod tests;
-mod values;
+mod turning;
+mod waiting;
 
 pub use configurations::{Config, Put, Puts, Store, Stores};
-pub use events::{Ending, Entries, Entry, Event, Halt, Stepped, StuckWhy};
-pub use running::{Replayed, replay};
-pub use stepping::{start, step};
-pub use tasks::{Bind, Binds, Frame, Frames, Task, Tasks};
-pub use values::{Channel, Value};
+pub use events::{Ending, Entries, Entry, Event, Stepped};
+pub use looking::look;
+pub use machine_tasks::{
+    Act, Bind, Binds, Channel, Frame, Frames, Halt, Sending, StuckWhy, Task, Tasks, Twins, Value,
+};
+pub use running::step;
+pub use stepping::start;

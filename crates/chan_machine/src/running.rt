@@ -1,116 +1,94 @@
-//! Runs in rounds.
-ghost use Rattle.std.specs.Prelude.{◌≡◌, ◌≤◌, ◌++◌, map, [], false, IfOk, OnOk};
-ghost use Rattle.core_language.specs.Endings.{ending_of};
-ghost use Rattle.core_language.specs.Rounds.{movers, round as round_of, run_of};
-ghost use Rattle.core_programs.specs.Formed.{IsFirstForm};
+//! Steps by name.
+ghost use Rattle.std.specs.Prelude.{◌≡◌, ◌⊎◌, false, IfOk, OnErr};
+ghost use Rattle.core_language.specs.Steps.{machine_step, step as step_without_limits};
 ghost use Rattle.core_programs.specs.Bodies.{program_of};
-ghost use Rattle.chan_machine.specs.Reading.{config_of, entry_of, ending_as};
-ghost use Rattle.chan_machine.specs.Fits.{Fits, is_moved};
-ghost use Rattle.chan_machine.specs.Runs.{run_at, shown};
+ghost use Rattle.chan_machine.specs.Reading.{config_of, step_of};
+ghost use Rattle.chan_machine.specs.Fits.{Fits, ForksAt, IsHalt, RoomAt, is_moved};
 
 use crate::configurations::Config;
-use crate::events::{Ending, Entries, Entry, Event, Stepped};
-use crate::stepping::{start, step};
+use crate::events::{Event, Stepped};
+use crate::exchanging::{fork, receive, send};
+use crate::looking::printed;
+use crate::stepping::{advance, make_room, print};
 use chan_base::{Memory, Name};
 use core_programs::Program;
-use sqlite_items::Items;
+use machine_tasks::Act;
 use std::alloc::Global;
 
-/// The configuration after the rounds, the entries of these rounds, and the ending.
-#[derive(Drop)]
-pub struct Replayed {
-    pub config: Config,
-    pub entries: Entries,
-    pub ending: Ending,
-}
-
-/// Adds the entry of a step, where it has one, and answers whether the task moved.
-fn note(entries: &mut Entries, time: u64, name: Name, stepped: Stepped) -> Result<bool, Memory>
-    ensures added { OnOk result (map entry_of entries.new ≡ map entry_of entries.old ++ shown time name stepped) }
-    ensures moved { IfOk result (λ moved. moved ≡ is_moved stepped) }
-{
-    match stepped {
-        Stepped::Moved(Event::Silent) => Ok(true),
-        Stepped::Moved(event) => {
-            entries.push(Entry { time, name, event })?;
-            Ok(true)
-        }
-        _ => Ok(false),
-    }
-}
-
-/// Each task that moves at the start of the round steps once. Answers whether one moved.
-fn round(
+/// The next step of the task with this name, which has room for one more variable.
+fn make_step(
     alloc: Global,
     program: &Program,
     config: &mut Config,
-    entries: &mut Entries,
-    time: u64,
-) -> Result<bool, Memory>
+    name: &Name,
+) -> Result<Stepped, Memory>
     requires fits { Fits program.now config.old }
-    ensures run { OnOk result (round_of (program_of program.now) time (run_at program.now config.old entries.old) ≡ run_at program.now config.new entries.new) }
-    ensures moved { IfOk result (λ moved. moved ≡ false → movers (program_of program.now) (config_of program.now config.new) ≡ []) }
+    requires room { RoomAt config.old.tasks name.now }
+    requires forks { ForksAt config.old.tasks name.now }
+    ensures value { IfOk result (λ s. machine_step (program_of program.now) (config_of program.now config.old) name.now ≡ step_of (config_of program.now config.new) s) }
+    ensures still { IfOk result (λ s. is_moved s ≡ false → config_of program.now config.new ≡ config_of program.now config.old) }
+    ensures err { OnErr result (config_of program.now config.new ≡ config_of program.now config.old) }
     ensures fits { Fits program.now config.new }
 {
-    let main = Name::root(alloc);
-    let stepped = step(alloc, program, config, &main)?;
-    note(entries, time, main, stepped)
+    let Some(task) = config.tasks.get(name) else {
+        return Ok(Stepped::Absent);
+    };
+    match task.act(program) {
+        Act::Silent => {
+            advance(alloc, program, &mut config.tasks, name)?;
+            Ok(Stepped::Moved(Event::Silent))
+        }
+        Act::End => {
+            advance(alloc, program, &mut config.tasks, name)?;
+            Ok(Stepped::Moved(Event::End))
+        }
+        Act::Print(number) => {
+            print(
+                alloc,
+                program,
+                &mut config.tasks,
+                &mut config.prints,
+                name,
+                number,
+            )?;
+            Ok(printed(number))
+        }
+        Act::Ended => Ok(Stepped::Ended),
+        Act::Halts(why) => Ok(Stepped::Halts(why)),
+        Act::Stuck(why) => Ok(Stepped::Stuck(why)),
+        Act::Fork => fork(alloc, program, config, name),
+        Act::Send => match task.channel(program) {
+            Some(channel) => {
+                let channel = channel.name.copy(alloc)?;
+                send(alloc, program, config, name, channel)
+            }
+            None => Err(Memory),
+        },
+        Act::Recv => match task.channel(program) {
+            Some(channel) => {
+                let channel = channel.name.copy(alloc)?;
+                receive(alloc, program, config, name, channel)
+            }
+            None => Err(Memory),
+        },
+    }
 }
 
-/// Runs the rounds, up to one in which no task moves: from there on nothing changes.
-fn run_rounds(
+/// Makes the next step of the task with this name, or says why there is none.
+pub fn step(
     alloc: Global,
     program: &Program,
     config: &mut Config,
-    entries: &mut Entries,
-    rounds: u64,
-) -> Result<(), Memory>
+    name: &Name,
+) -> Result<Stepped, Memory>
     requires fits { Fits program.now config.old }
-    requires first { run_at program.now config.old entries.old ≡ run_of (program_of program.now) 0 }
-    ensures run { OnOk result (run_at program.now config.new entries.new ≡ run_of (program_of program.now) rounds) }
-    ensures fits { OnOk result (Fits program.now config.new) }
+    requires forks { ForksAt config.old.tasks name.now }
+    ensures value { IfOk result (λ s. machine_step (program_of program.now) (config_of program.now config.old) name.now ≡ step_of (config_of program.now config.new) s) }
+    ensures limits { IfOk result (λ s. IsHalt s ⊎ (step_without_limits (program_of program.now) (config_of program.now config.old) name.now ≡ step_of (config_of program.now config.new) s)) }
+    ensures still { IfOk result (λ s. is_moved s ≡ false → config_of program.now config.new ≡ config_of program.now config.old) }
+    ensures err { OnErr result (config_of program.now config.new ≡ config_of program.now config.old) }
+    ensures fits { Fits program.now config.new }
 {
-    let mut time = 0;
-    'rounds: while time < rounds {
-        time += 1;
-        let moved = round(alloc, program, config, entries, time)?;
-        if !moved {
-            return Ok(());
-        }
-    }
-    Ok(())
-}
-
-/// How the run ends that has come to this configuration.
-fn ending(alloc: Global, program: &Program, config: &Config) -> Ending
-    requires form { IsFirstForm program.now }
-    requires fits { Fits program.now config.now }
-    ensures { ending_as result ≡ ending_of (program_of program.now) (config_of program.now config.now) }
-{
-    let main = Name::root(alloc);
-    match config.tasks.get(&main) {
-        Some(task) if task.frames.is_empty() => Ending::Finished,
-        Some(_) => Ending::Rounds,
-        None => Ending::Finished,
-    }
-}
-
-/// Runs the program on one thread for this many rounds.
-pub fn replay(alloc: Global, program: &Program, rounds: u64) -> Result<Replayed, Memory>
-    requires low { 1 ≤ rounds }
-    requires high { rounds ≤ 1000000000 }
-    ensures run { IfOk result (λ r. run_at program.now r.config r.entries ≡ run_of (program_of program.now) rounds) }
-    ensures ending { IfOk result (λ r. ending_as r.ending ≡ ending_of (program_of program.now) (run_of (program_of program.now) rounds).config) }
-    ensures fits { IfOk result (λ r. Fits program.now r.config) }
-{
-    let _parts = program.parts();
-    let mut config = start(alloc, program)?;
-    let mut entries = Items::new(alloc);
-    run_rounds(alloc, program, &mut config, &mut entries, rounds)?;
-    let ending = ending(alloc, program, &config);
-    Ok(Replayed {
-        config,
-        entries,
-        ending,
-    })
+    make_room(&mut config.tasks, name)?;
+    make_step(alloc, program, config, name)
 }

@@ -1,20 +1,23 @@
-//! Steps of one task.
-ghost use Rattle.std.specs.Prelude.{◌≡◌, ◌⊎◌, List, ℕ, ◌<◌, ◌^◌, pos, false, true, [], ◌∷◌, None, IfOk, OnErr, OnOk};
-ghost use Rattle.core_language.specs.Computing.{Env, Done, machine, sum_of};
+//! Steps of a configuration.
+ghost use Rattle.std.specs.Prelude.{◌≡◌, ◌<◌, ◌++◌, ◌∷◌, [], suc, Some, IsSome, length, IfOk, OnOk, OnErr};
+ghost use Rattle.std.specs.Ordering.{nat_cmp};
+ghost use Rattle.std.specs.Cmp.Lexicographic.{slice_cmp};
+ghost use Rattle.std.specs.FinMap.{insert};
+ghost use Rattle.std.specs.BTreeMap.{Updates, get as looked_up};
 ghost use Rattle.core_language.specs.Configurations.{start as start_of};
-ghost use Rattle.core_language.specs.Steps.{machine_step, step as step_without_limits};
-ghost use Rattle.core_programs.specs.Formed.{IsNumber, IsFirstForm};
-ghost use Rattle.chan_syntax.specs.Reading.{term_of};
+ghost use Rattle.core_programs.specs.declared.nodes.Parts.{Parts};
 ghost use Rattle.core_programs.specs.Bodies.{program_of};
-ghost use Rattle.chan_machine.specs.Reading.{config_of, step_of};
-ghost use Rattle.chan_machine.specs.Fits.{Fits, FramesFit, IsHalt, Makes, is_moved};
+ghost use Rattle.machine_tasks.specs.declared.tasks.Task.{Task};
+ghost use Rattle.machine_tasks.specs.Moving.{at_node, place_after};
+ghost use Rattle.machine_tasks.specs.Reading.{act_in, place_of, task_of, value_as};
+ghost use Rattle.machine_tasks.specs.Sharing.{place_with};
+ghost use Rattle.chan_machine.specs.Reading.{config_of, map_of, prints_of};
+ghost use Rattle.chan_machine.specs.Fits.{Fits, ForksAt, RoomAt, TasksFit};
 
 use crate::configurations::{Config, Put, Puts};
-use crate::events::{Event, Stepped};
-use crate::tasks::{Frame, Task};
 use chan_base::{Memory, Name};
-use chan_syntax::Term;
-use core_programs::{Node, Program};
+use core_programs::Program;
+use machine_tasks::{Bind, Task, Value};
 use sqlite_items::Items;
 use std::alloc::Global;
 use std::collections::BTreeMap;
@@ -24,18 +27,9 @@ pub fn start(alloc: Global, program: &Program) -> Result<Config, Memory>
     ensures value { IfOk result (λ config. config_of program.now config ≡ start_of (program_of program.now)) }
     ensures fits { IfOk result (λ config. Fits program.now config) }
 {
-    let node = program.main();
-    let binds = Items::new(alloc);
-    let mut frames = Items::new(alloc);
-    frames.push(Frame { node, binds })?;
-    let name = Name::root(alloc);
-    let task = Task {
-        name,
-        frames,
-        forks: 0,
-    };
+    let main = Task::main(alloc, program)?;
     let mut tasks = BTreeMap::new(alloc);
-    tasks.insert(Name::root(alloc), task)?;
+    tasks.insert(Name::root(alloc), main)?;
     Ok(Config {
         tasks,
         channels: BTreeMap::new(alloc),
@@ -43,66 +37,126 @@ pub fn start(alloc: Global, program: &Program) -> Result<Config, Memory>
     })
 }
 
-/// The number that a printed term is.
-fn number_of(term: &Term) -> i64
-    requires { IsNumber (term_of term.now) }
-    ensures { (env : Env) → sum_of machine env (term_of term.now) ≡ Done result }
-{
-    let parts = term.parts.as_slice();
-    parts[0].factor
-}
-
-/// Makes the next step of a task, or says why there is none.
-fn advance(
+/// The task with this name makes its step by itself.
+pub(crate) fn advance(
     alloc: Global,
     program: &Program,
-    task: &mut Task,
-    prints: &mut Puts,
-) -> Result<Stepped, Memory>
-    requires fits { FramesFit program.now.nodes task.old.frames }
-    ensures value { IfOk result (λ s. Makes program.now task.old task.new prints.old prints.new s) }
-    ensures still { IfOk result (λ s. is_moved s ≡ false → (task.new ≡ task.old) × (prints.new ≡ prints.old)) }
-    ensures memory { OnErr result ((task.new ≡ task.old) × (prints.new ≡ prints.old)) }
-    ensures name { task.new.name ≡ task.old.name }
-    ensures fits { FramesFit program.now.nodes task.new.frames }
+    tasks: &mut BTreeMap<Name, Task>,
+    name: &Name,
+) -> Result<(), Memory>
+    requires fits { TasksFit program.now tasks.old }
+    ensures ok { (t : Task) → looked_up (slice_cmp nat_cmp) tasks.old name.now ≡ Some t
+        → OnOk result (map_of (task_of program.now.nodes) tasks.new ≡ insert (map_of (task_of program.now.nodes) tasks.old) name.now (record { place = place_after (act_in program.now t); forks = t.forks })) }
+    ensures err { OnErr result (map_of (task_of program.now.nodes) tasks.new ≡ map_of (task_of program.now.nodes) tasks.old) }
+    ensures fits { TasksFit program.now tasks.new }
 {
-    let Some(frame) = task.frames.as_slice().last() else {
-        return Ok(Stepped::Ended);
-    };
-    match program.node(frame.node) {
-        Node::Print { term, next, .. } => {
-            let number = number_of(term);
-            let node = *next;
-            let name = task.name.copy(alloc)?;
-            prints.push(Put { name, number })?;
-            let binds = Items::new(alloc);
-            let top = task.frames.len() - 1;
-            task.frames.set(top, Frame { node, binds });
-            Ok(Stepped::Moved(Event::Print(number)))
-        }
-        Node::Ret { .. } => {
-            let _frame = task.frames.pop();
-            Ok(Stepped::Moved(Event::End))
+    if let Some(task) = tasks.get_mut(name) {
+        task.advance(alloc, program)?;
+    }
+    Ok(())
+}
+
+/// The task with this name makes its step, which prints the number.
+pub(crate) fn print(
+    alloc: Global,
+    program: &Program,
+    tasks: &mut BTreeMap<Name, Task>,
+    prints: &mut Puts,
+    name: &Name,
+    number: i64,
+) -> Result<(), Memory>
+    requires fits { TasksFit program.now tasks.old }
+    ensures ok { (t : Task) → looked_up (slice_cmp nat_cmp) tasks.old name.now ≡ Some t
+        → OnOk result (map_of (task_of program.now.nodes) tasks.new ≡ insert (map_of (task_of program.now.nodes) tasks.old) name.now (record { place = place_after (act_in program.now t); forks = t.forks })) }
+    ensures prints { OnOk result (prints_of prints.new ≡ prints_of prints.old ++ (name.now, number) ∷ []) }
+    ensures err { OnErr result (map_of (task_of program.now.nodes) tasks.new ≡ map_of (task_of program.now.nodes) tasks.old) }
+    ensures unprinted { OnErr result (prints.new ≡ prints.old) }
+    ensures fits { TasksFit program.now tasks.new }
+{
+    let copy = name.copy(alloc)?;
+    prints.push(Put { name: copy, number })?;
+    match advance(alloc, program, tasks, name) {
+        Ok(()) => Ok(()),
+        Err(_) => {
+            let _put = prints.pop();
+            Err(Memory)
         }
     }
 }
 
-/// Makes the next step of the task with this name, or says why there is none.
-pub fn step(
-    alloc: Global,
-    program: &Program,
-    config: &mut Config,
-    name: &Name,
-) -> Result<Stepped, Memory>
-    requires fits { Fits program.now config.old }
-    ensures value { IfOk result (λ s. machine_step (program_of program.now) (config_of program.now config.old) name.now ≡ step_of (config_of program.now config.new) s) }
-    ensures limits { IfOk result (λ s. IsHalt s ⊎ (step_without_limits (program_of program.now) (config_of program.now config.old) name.now ≡ step_of (config_of program.now config.new) s)) }
-    ensures still { IfOk result (λ s. is_moved s ≡ false → config_of program.now config.new ≡ config_of program.now config.old) }
-    ensures memory { OnErr result (config_of program.now config.new ≡ config_of program.now config.old) }
-    ensures fits { Fits program.now config.new }
+/// The channel is Full with the value from now on.
+pub(crate) fn fill(channels: &mut BTreeMap<Name, Option<Value>>, channel: &Name, value: Value)
+    requires { IsSome (looked_up (slice_cmp nat_cmp) channels.old channel.now) }
+    ensures { Updates (slice_cmp nat_cmp) channels.old channels.new channel.now (Some (Some value)) }
 {
-    let Some(task) = config.tasks.get_mut(name) else {
-        return Ok(Stepped::Absent);
-    };
-    advance(alloc, program, task, &mut config.prints)
+    if let Some(slot) = channels.get_mut(channel) {
+        *slot = Some(value);
+    }
+}
+
+/// The task with this name goes on at the node.
+pub(crate) fn move_on(program: &Program, tasks: &mut BTreeMap<Name, Task>, name: &Name, node: u32)
+    requires node { node < length program.now.nodes }
+    requires fits { TasksFit program.now tasks.old }
+    ensures moves { (t : Task) → looked_up (slice_cmp nat_cmp) tasks.old name.now ≡ Some t
+        → map_of (task_of program.now.nodes) tasks.new ≡ insert (map_of (task_of program.now.nodes) tasks.old) name.now (record { place = at_node program.now.nodes node (place_of program.now.nodes t.frames.items); forks = t.forks }) }
+    ensures fits { TasksFit program.now tasks.new }
+{
+    if let Some(task) = tasks.get_mut(name) {
+        task.go_on(program, node);
+    }
+}
+
+/// Room for one more variable in the top frame of the task with this name.
+pub(crate) fn make_room(tasks: &mut BTreeMap<Name, Task>, name: &Name) -> Result<(), Memory>
+    ensures same { (program : Parts) → map_of (task_of program.nodes) tasks.new ≡ map_of (task_of program.nodes) tasks.old }
+    ensures room { OnOk result (RoomAt tasks.new name.now) }
+    ensures forks { ForksAt tasks.old name.now → ForksAt tasks.new name.now }
+    ensures fits { (program : Parts) → TasksFit program tasks.old → TasksFit program tasks.new }
+{
+    if let Some(task) = tasks.get_mut(name) {
+        task.make_room(1)?;
+    }
+    Ok(())
+}
+
+/// The task with this name, which has room, goes on with one more variable.
+pub(crate) fn accept(
+    program: &Program,
+    tasks: &mut BTreeMap<Name, Task>,
+    name: &Name,
+    bind: Bind,
+    node: u32,
+)
+    requires node { node < length program.now.nodes }
+    requires room { RoomAt tasks.old name.now }
+    requires fits { TasksFit program.now tasks.old }
+    ensures moves { (t : Task) → looked_up (slice_cmp nat_cmp) tasks.old name.now ≡ Some t
+        → map_of (task_of program.now.nodes) tasks.new ≡ insert (map_of (task_of program.now.nodes) tasks.old) name.now (record { place = place_with program.now.nodes bind.name (value_as bind.value) node (place_of program.now.nodes t.frames.items); forks = t.forks }) }
+    ensures fits { TasksFit program.now tasks.new }
+{
+    if let Some(task) = tasks.get_mut(name) {
+        task.accept(program, bind, node);
+    }
+}
+
+/// The task with this name, which has room, goes on after its fork.
+pub(crate) fn branch(
+    program: &Program,
+    tasks: &mut BTreeMap<Name, Task>,
+    name: &Name,
+    end: Bind,
+    node: u32,
+)
+    requires node { node < length program.now.nodes }
+    requires room { RoomAt tasks.old name.now }
+    requires forks { ForksAt tasks.old name.now }
+    requires fits { TasksFit program.now tasks.old }
+    ensures moves { (t : Task) → looked_up (slice_cmp nat_cmp) tasks.old name.now ≡ Some t
+        → map_of (task_of program.now.nodes) tasks.new ≡ insert (map_of (task_of program.now.nodes) tasks.old) name.now (record { place = place_with program.now.nodes end.name (value_as end.value) node (place_of program.now.nodes t.frames.items); forks = suc t.forks }) }
+    ensures fits { TasksFit program.now tasks.new }
+{
+    if let Some(task) = tasks.get_mut(name) {
+        task.branch(program, end, node);
+    }
 }

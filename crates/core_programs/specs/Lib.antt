@@ -1,2 +1,5 @@
 pub mod Bodies
 pub mod Formed
+pub mod Trees
+pub mod Passes
+pub mod Form

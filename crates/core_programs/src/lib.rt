@@ -1,8 +1,16 @@
 //! Core programs: functions whose bodies are numbered nodes, and what makes a program well formed.
 #![tactic(auto)]
 
+mod bodies;
+mod forms;
+mod mains;
 mod nodes;
+mod passes;
+mod tables;
+mod walking;
 mod wellformed;
 
+pub use form_faults::{Ill, IllKind};
+pub use forms::first_fault;
 pub use nodes::{Func, Funcs, Node, Nodes, Parts};
-pub use wellformed::{BuildFault, Ill, IllKind, Program};
+pub use wellformed::{BuildFault, Program};

@@ -1,13 +1,33 @@
-use Rattle.std.proofs.Common.{◌≡◌, ◌-◌, List, length, slice_get, Some, sym, subst, refl}
-use Rattle.core_programs.specs.Formed.{LeadBelow}
-use Rattle.chan_machine.specs.declared.tasks.Frame.{Frame}
-use Rattle.chan_machine.proofs.Frames.{lone_frame, set_fits}
+use Rattle.std.proofs.Common.{rules, sym, ap, ◌∙◌}
+use Rattle.std.specs.Ordering.{nat_cmp}
+use Rattle.std.specs.Cmp.Lexicographic.{slice_cmp}
+use Rattle.std.specs.BTreeMap.{get as looked_up}
+use Rattle.chan_machine.proofs.Keeping.{advanced, stayed, fits_put}
+use Rattle.machine_tasks.proofs.Places.{on_err}
 use Rattle.chan_machine.proofs.stepping.advance.Goals as goal
 
-pub returns-in_ok-push-in-Print-clause-fits : goal.returns-in_ok-push-in-Print-clause-fits
-returns-in_ok-push-in-Print-clause-fits c =
-    let nodes = c.args.program.now.nodes in
-    let frames = c.args.task.now.frames in
-    let last = subst (λ (fs : List Frame). slice_get fs (length fs - 1) ≡ Some c.in-Some.frame.now) c.as_slice.ensures (sym c.in-Some.ensures.value) in
-    let leads = subst (λ x. LeadBelow x (length nodes)) c.in-Print.is c.node.ensures.leads in
-    set_fits nodes frames _ _ _ _ _ (lone_frame nodes frames c.in-Some.frame.now c.requires.fits last) (leads 0 c.in-Print.next refl) c.new-binds.ensures c.len-top.ensures c.set.ensures
+pub advance-requires : goal.advance-requires
+advance-requires c = record { fits = (c.requires.fits c.args.name.now c.in-Some.task.now (search rules)).1 }
+
+pub returns-in_err-advance-clause-err : goal.returns-in_err-advance-clause-err
+returns-in_err-advance-clause-err c =
+    on_err c.from_residual.result _ (stayed c.args.program.now c.args.tasks.now (c.get_mut.follows.lender c.advance.new.self) c.args.name.now c.in-Some.task.now c.advance.new.self
+    (search rules) ((c.get_mut.follows.holds c.advance.new.self).3 (search rules)) c.in_err-advance.ensures.err c.advance.ensures.forks)
+
+pub returns-in_err-advance-clause-fits : goal.returns-in_err-advance-clause-fits
+returns-in_err-advance-clause-fits c =
+    fits_put c.args.program.now c.args.tasks.now (c.get_mut.follows.lender c.advance.new.self) c.args.name.now c.advance.new.self c.requires.fits ((c.get_mut.follows.holds c.advance.new.self).3 (search rules))
+    (c.advance.ensures.name ∙ (c.requires.fits c.args.name.now c.in-Some.task.now (search rules)).0) c.advance.ensures.fits
+
+pub returns-in_ok-advance-clause-fits : goal.returns-in_ok-advance-clause-fits
+returns-in_ok-advance-clause-fits c =
+    fits_put c.args.program.now c.args.tasks.now (c.get_mut.follows.lender c.advance.new.self) c.args.name.now c.advance.new.self c.requires.fits ((c.get_mut.follows.holds c.advance.new.self).3 (search rules))
+    (c.advance.ensures.name ∙ (c.requires.fits c.args.name.now c.in-Some.task.now (search rules)).0) c.advance.ensures.fits
+
+pub returns-in_ok-advance-clause-ok : goal.returns-in_ok-advance-clause-ok
+returns-in_ok-advance-clause-ok c = λ t found.
+    advanced c.args.program.now c.args.tasks.now (c.get_mut.follows.lender c.advance.new.self) c.args.name.now c.in-Some.task.now t c.advance.new.self
+    (search rules) found ((c.get_mut.follows.holds c.advance.new.self).3 (search rules)) c.in_ok-advance.ensures.place c.advance.ensures.forks
+
+pub returns-in_default-clause-fits : goal.returns-in_default-clause-fits
+returns-in_default-clause-fits c = λ p t found. c.requires.fits p t (ap (λ m. looked_up (slice_cmp nat_cmp) m p) (sym c.get_mut.follows.holds-at-none) ∙ found)

@@ -1,0 +1,100 @@
+//! What a step would answer.
+ghost use Rattle.std.specs.Prelude.{◌≡◌, ℕ, true, Some, IfOk};
+ghost use Rattle.std.specs.Option.{option_map};
+ghost use Rattle.core_language.specs.Names.{Name as NameOf};
+ghost use Rattle.core_language.specs.Acts.{Act as ActOf};
+ghost use Rattle.core_language.specs.Configurations.{Config as ConfigOf};
+ghost use Rattle.core_language.specs.Steps.{Moves, Print, effect, machine_step};
+ghost use Rattle.core_programs.specs.Bodies.{program_of};
+ghost use Rattle.machine_tasks.specs.Channels.{channel_in};
+ghost use Rattle.machine_tasks.specs.Kinds.{kind_of, Send, Recv};
+ghost use Rattle.machine_tasks.specs.Reading.{value_as};
+ghost use Rattle.chan_machine.specs.Fits.{Fits, is_moved};
+ghost use Rattle.chan_machine.specs.Looking.{Answers};
+ghost use Rattle.chan_machine.specs.Reading.{config_of, map_of, step_of};
+
+use crate::configurations::Config;
+use crate::events::{Event, Stepped};
+use chan_base::{Memory, Name, Number};
+use core_programs::Program;
+use machine_tasks::{Act, Channel, StuckWhy, Value};
+use std::alloc::Global;
+use std::collections::BTreeMap;
+
+/// What a send on the channel would answer.
+fn look_send(
+    alloc: Global,
+    channels: &BTreeMap<Name, Option<Value>>,
+    channel: &Channel,
+) -> Result<Stepped, Memory>
+    ensures { IfOk result (λ s. (C : ConfigOf) (p : NameOf) (k : ℕ) (a : ActOf) → C.channels ≡ map_of (option_map value_as) channels.now → Send ≡ kind_of a → Some channel.now.name ≡ channel_in a → Answers (effect C p k a) s) }
+{
+    match channels.get(&channel.name) {
+        Some(None) => {
+            let name = channel.name.copy(alloc)?;
+            Ok(Stepped::Moved(Event::Send(name)))
+        }
+        Some(Some(_)) => Ok(Stepped::Stuck(StuckWhy::FullChannel)),
+        None => Ok(Stepped::Stuck(StuckWhy::NoChannel)),
+    }
+}
+
+/// What a receive on the channel would answer.
+fn look_receive(
+    alloc: Global,
+    channels: &BTreeMap<Name, Option<Value>>,
+    channel: &Channel,
+) -> Result<Stepped, Memory>
+    ensures { IfOk result (λ s. (C : ConfigOf) (p : NameOf) (k : ℕ) (a : ActOf) → C.channels ≡ map_of (option_map value_as) channels.now → Recv ≡ kind_of a → Some channel.now.name ≡ channel_in a → Answers (effect C p k a) s) }
+{
+    let name = channel.name.copy(alloc)?;
+    match channels.get(&channel.name) {
+        Some(Some(_)) => Ok(Stepped::Moved(Event::Recv(name))),
+        Some(None) => Ok(Stepped::Waits(name)),
+        None => Ok(Stepped::Stuck(StuckWhy::NoChannel)),
+    }
+}
+
+/// The answer of a step that prints the number.
+pub(crate) fn printed(number: i64) -> Stepped
+    ensures shows { (C : ConfigOf) → step_of C result ≡ Moves C (Print number) }
+    ensures moved { is_moved result ≡ true }
+{
+    Stepped::Moved(Event::Print(number))
+}
+
+/// What `step` would answer. Nothing changes.
+pub fn look(
+    alloc: Global,
+    program: &Program,
+    config: &Config,
+    name: &Name,
+) -> Result<Stepped, Memory>
+    requires fits { Fits program.now config.now }
+    ensures { IfOk result (λ s. Answers (machine_step (program_of program.now) (config_of program.now config.now) name.now) s) }
+{
+    let Some(task) = config.tasks.get(name) else {
+        return Ok(Stepped::Absent);
+    };
+    match task.act(program) {
+        Act::Silent => Ok(Stepped::Moved(Event::Silent)),
+        Act::Print(number) => Ok(printed(number)),
+        Act::End => Ok(Stepped::Moved(Event::End)),
+        Act::Ended => Ok(Stepped::Ended),
+        Act::Halts(why) => Ok(Stepped::Halts(why)),
+        Act::Stuck(why) => Ok(Stepped::Stuck(why)),
+        Act::Fork => {
+            let made = task.offspring(alloc, program, Number(0))?;
+            let child = made.child.name().copy(alloc)?;
+            Ok(Stepped::Moved(Event::Fork(child)))
+        }
+        Act::Send => match task.channel(program) {
+            Some(channel) => look_send(alloc, &config.channels, channel),
+            None => Err(Memory),
+        },
+        Act::Recv => match task.channel(program) {
+            Some(channel) => look_receive(alloc, &config.channels, channel),
+            None => Err(Memory),
+        },
+    }
+}

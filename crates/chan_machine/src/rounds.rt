@@ -1,0 +1,95 @@
+//! Rounds that cost what their moving tasks cost.
+ghost use Rattle.std.specs.Prelude.{◌≡◌, ◌<◌, ◌≤◌, suc, IfOk, OnOk};
+ghost use Rattle.core_language.specs.Configurations.{start as start_of};
+ghost use Rattle.core_language.specs.Rounds.{round as round_of, run_of};
+ghost use Rattle.core_programs.specs.Bodies.{program_of};
+ghost use Rattle.machine_rounds.specs.Showing.{ForksUpTo};
+ghost use Rattle.chan_machine.specs.Fits.{Fits};
+ghost use Rattle.chan_machine.specs.Parking.{is_ready};
+ghost use Rattle.chan_machine.specs.Reading.{config_of};
+ghost use Rattle.chan_machine.specs.Turning.{Parked, run_as};
+
+use crate::configurations::Config;
+use crate::runs::{Queue, Run};
+use crate::sifting::sift;
+use crate::stepping::start;
+use crate::turning::run_turns;
+use chan_base::{Memory, Name};
+use core_programs::Program;
+use sqlite_items::Items;
+use std::alloc::Global;
+use std::collections::{BTreeMap, BTreeSet};
+
+/// The round after so many. Gives who may move in the next one.
+fn round(
+    alloc: Global,
+    program: &Program,
+    before: u64,
+    run: &mut Run,
+    queue: Queue,
+) -> Result<Queue, Memory>
+    requires before { before < 4294967295 }
+    requires fits { Fits program.now run.old.config }
+    requires forks { ForksUpTo before (config_of program.now run.old.config).tasks }
+    requires parked { Parked program.now run.old (is_ready queue.ready) queue.waiting }
+    ensures round { OnOk result (run_as program.now run.new ≡ round_of (program_of program.now) (suc before) (run_as program.now run.old)) }
+    ensures parked { IfOk result (λ next. Parked program.now run.new (is_ready next.ready) next.waiting) }
+    ensures forks { OnOk result (ForksUpTo (suc before) (config_of program.now run.new.config).tasks) }
+    ensures fits { OnOk result (Fits program.now run.new.config) }
+{
+    let Queue { ready, mut waiting } = queue;
+    let _ordered = ready.len();
+    let movers = sift(alloc, program, run, &mut waiting, ready)?;
+    let mut next = Queue {
+        ready: BTreeSet::new(alloc),
+        waiting,
+    };
+    run_turns(alloc, program, before, run, &mut next, movers)?;
+    Ok(next)
+}
+
+/// Rounds from the start, as long as a task may move.
+fn run_all(
+    alloc: Global,
+    program: &Program,
+    rounds: u64,
+    run: &mut Run,
+    queue: Queue,
+) -> Result<(), Memory>
+    requires rounds { rounds ≤ 1000000000 }
+    requires start { run_as program.now run.old ≡ run_of (program_of program.now) 0 }
+    requires fits { Fits program.now run.old.config }
+    requires forks { ForksUpTo 0 (config_of program.now run.old.config).tasks }
+    requires parked { Parked program.now run.old (is_ready queue.ready) queue.waiting }
+    ensures run { OnOk result (run_as program.now run.new ≡ run_of (program_of program.now) rounds) }
+    ensures fits { OnOk result (Fits program.now run.new.config) }
+{
+    let mut queue = queue;
+    let mut time = 0;
+    'rounds: while time < rounds && !queue.ready.is_empty() {
+        queue = round(alloc, program, time, run, queue)?;
+        time += 1;
+    }
+    Ok(())
+}
+
+/// The run after so many rounds.
+pub(crate) fn run_rounds(alloc: Global, program: &Program, rounds: u64) -> Result<Run, Memory>
+    requires rounds { rounds ≤ 1000000000 }
+    ensures run { IfOk result (λ run. run_as program.now run ≡ run_of (program_of program.now) rounds) }
+    ensures fits { IfOk result (λ run. Fits program.now run.config) }
+{
+    let config = start(alloc, program)?;
+    let mut ready = BTreeSet::new(alloc);
+    ready.insert(Name::root(alloc))?;
+    let mut run = Run {
+        config,
+        entries: Items::new(alloc),
+    };
+    let queue = Queue {
+        ready,
+        waiting: BTreeMap::new(alloc),
+    };
+    run_all(alloc, program, rounds, &mut run, queue)?;
+    Ok(run)
+}

@@ -1,0 +1,4 @@
+pub mod Ready
+pub mod Sets
+pub mod Local
+pub mod Showing

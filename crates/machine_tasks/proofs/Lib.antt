@@ -1,0 +1,9 @@
+pub mod Depths
+pub mod ReadValues
+pub mod Weighing
+pub mod ActKinds
+pub mod Keeping
+pub mod Places
+pub mod Below
+pub mod Params
+pub mod Channels

@@ -1,0 +1,62 @@
+-- What becomes of a task's place when its frames change.
+use Rattle.std.specs.Prelude.{ℕ, ◌+◌, ◌≤◌, Bool, if◌then◌else◌, List, [], ◌∷◌, reverse, Option, Some, None, vec_len, vec_capacity}
+use Rattle.core_language.specs.Names.{Ident}
+use Rattle.core_language.specs.Values.{Value}
+use Rattle.core_language.specs.Values as value
+use Rattle.core_language.specs.Configurations.{Place, Running, Ended, Caller, kept}
+use Rattle.core_language.specs.Acts.{Act, at, bound, returned}
+use Rattle.core_language.specs.Acts as act
+use Rattle.core_programs.specs.declared.nodes.Node.{Node}
+use Rattle.core_programs.specs.Bodies.{rest}
+use Rattle.machine_tasks.specs.declared.tasks.Frame.{Frame}
+use Rattle.machine_tasks.specs.declared.quiet.Side.{Side}
+use Rattle.machine_tasks.specs.declared.quiet.Side.TheVariants as side
+use Rattle.machine_tasks.specs.Reading.{env_of, value_as}
+
+-- the top frame at the node
+abbrev pub at_node : List Node → ℕ → Place → Place
+at_node nodes n Ended = Ended
+at_node nodes n (Running here env callers) = at (rest nodes n) env callers
+
+-- the top frame with one more variable
+abbrev pub bound_in : Ident → Value → Place → Place
+bound_in x v Ended = Ended
+bound_in x v (Running here env callers) = Running here (bound env x v) callers
+
+-- the top frame at one of two nodes
+abbrev pub chosen : List Node → ℕ → ℕ → Bool → Place → Place
+chosen nodes n m first Ended = Ended
+chosen nodes n m first (Running here env callers) = at (if first then rest nodes n else rest nodes m) env callers
+
+-- the frame on top of the callers, where there is one
+abbrev pub above : List Node → Option Frame → List Caller → Place
+above nodes None callers = Ended
+above nodes (Some f) callers = Running (rest nodes f.node) (env_of f.binds.items) callers
+
+-- where its own act leaves a task
+abbrev pub place_after : Act → Place
+place_after (act.Silent place) = place
+place_after (act.Print z place) = place
+place_after (act.Fork child parent its) = parent
+place_after (act.Send channel v place) = place
+place_after other = Ended
+
+-- the act is one that concerns no other task and no channel
+abbrev pub IsQuiet : Act → Type 0
+IsQuiet (act.Silent place) = Unit {0}
+IsQuiet (act.Print z place) = Unit {0}
+IsQuiet act.End = Unit {0}
+IsQuiet other = ⊥
+
+-- the top one of the frames, which are given from it on, has room for so many more variables
+abbrev pub RoomFrom : List Frame → ℕ → Type 0
+RoomFrom [] n = Unit {0}
+RoomFrom (top ∷ callers) n = vec_len top.binds + n ≤ vec_capacity top.binds
+
+abbrev pub HasRoom : List Frame → ℕ → Type 0
+HasRoom frames n = RoomFrom (reverse frames) n
+
+-- the sum of which this is the part
+abbrev pub side_value : Side → Value
+side_value (side.Left part) = value.Left (value_as part)
+side_value (side.Right part) = value.Right (value_as part)

@@ -1,0 +1,54 @@
+//! A function at its values.
+ghost use Rattle.std.specs.Prelude.{◌≡◌, ◌<◌, List, map, length, IfOk, IfSome};
+ghost use Rattle.core_language.specs.Programs.{function_named};
+ghost use Rattle.core_language.specs.Configurations.{Caller};
+ghost use Rattle.core_language.specs.Acts.{params_env, entered};
+ghost use Rattle.core_programs.specs.Bodies.{param_of, program_of};
+ghost use Rattle.machine_tasks.specs.Reading.{env_of, value_as};
+ghost use Rattle.machine_tasks.specs.Moving.{above};
+
+use crate::moving::keep;
+use crate::tasks::{Bind, Binds, Frame};
+use crate::values::Values;
+use chan_base::Memory;
+use chan_syntax::{Ident, Param};
+use core_programs::Program;
+use std::alloc::Global;
+
+/// The parameters with their values.
+fn bind_params(alloc: Global, params: &[Param], values: Values) -> Result<Binds, Memory>
+    ensures { IfOk result (λ binds. env_of binds.items ≡ params_env (map param_of params.now) (map value_as values.items)) }
+{
+    let mut binds = Vec::new(alloc);
+    'values: for value in values {
+        let Some(param) = params.get(binds.len()) else {
+            return Ok(binds);
+        };
+        let name = param.name.copy(alloc)?;
+        binds.push(Bind { name, value })?;
+    }
+    Ok(binds)
+}
+
+/// The frame at the beginning of the function, or None where no function has the name.
+pub(crate) fn enter(
+    alloc: Global,
+    program: &Program,
+    func: &Ident,
+    values: Values,
+) -> Result<Option<Frame>, Memory>
+    ensures entered { IfOk result (λ frame. (callers : List Caller) → entered (function_named func.now (program_of program.now).funcs) (map value_as values.items) callers ≡ above program.now.nodes frame callers) }
+    ensures stands { IfOk result (λ frame. IfSome frame (λ f. f.node < length program.now.nodes)) }
+{
+    match program.func(func.as_slice()) {
+        Some(function) => {
+            let mut binds = bind_params(alloc, function.params.as_slice(), values)?;
+            keep(program, &mut binds, function.first);
+            Ok(Some(Frame {
+                node: function.first,
+                binds,
+            }))
+        }
+        None => Ok(None),
+    }
+}

@@ -1,0 +1,81 @@
+//! A task goes on to another node.
+ghost use Rattle.std.specs.Prelude.{◌≡◌, ℕ, ◌<◌, ◌+◌, List, length, OnOk};
+ghost use Rattle.core_language.specs.Configurations.{kept};
+ghost use Rattle.core_programs.specs.declared.nodes.Node.{Node};
+ghost use Rattle.core_programs.specs.Bodies.{rest};
+ghost use Rattle.machine_tasks.specs.Fits.{FramesFit};
+ghost use Rattle.machine_tasks.specs.Reading.{env_of, place_of, value_as};
+ghost use Rattle.machine_tasks.specs.Moving.{at_node, bound_in, HasRoom};
+
+use crate::naming::is_named;
+use crate::tasks::{Bind, Binds, Frame, Task};
+use chan_base::Memory;
+use core_programs::Program;
+
+/// Drops the variables that the body at the node doesn't name.
+pub(crate) fn keep(program: &Program, binds: &mut Binds, node: u32)
+    requires { node < length program.now.nodes }
+    ensures { env_of binds.new.items ≡ kept (rest program.now.nodes node) (env_of binds.old.items) }
+{
+    let mut at = 0;
+    'binds: while at < binds.len() {
+        if is_named(program, node, &binds[at].name) {
+            at += 1;
+        } else {
+            let _dropped = binds.remove(at);
+        }
+    }
+}
+
+/// The frame stands at the node from now on.
+fn settle(program: &Program, frame: &mut Frame, node: u32)
+    requires { node < length program.now.nodes }
+    ensures node { frame.new.node ≡ node }
+    ensures binds { env_of frame.new.binds.items ≡ kept (rest program.now.nodes node) (env_of frame.old.binds.items) }
+{
+    frame.node = node;
+    keep(program, &mut frame.binds, node);
+}
+
+impl Task {
+    /// The task goes on at the node, in its top frame.
+    pub fn go_on(&mut self, program: &Program, node: u32)
+        requires { node < length program.now.nodes }
+        ensures place { place_of program.now.nodes self.new.frames.items ≡ at_node program.now.nodes node (place_of program.now.nodes self.old.frames.items) }
+        ensures fits { FramesFit program.now.nodes self.old.frames.items → FramesFit program.now.nodes self.new.frames.items }
+        ensures name { self.new.name ≡ self.old.name }
+        ensures forks { self.new.forks ≡ self.old.forks }
+    {
+        if let Some(frame) = self.frames.last_mut() {
+            settle(program, frame, node);
+        }
+    }
+
+    /// Room for so many more variables in the top frame.
+    pub fn make_room(&mut self, count: usize) -> Result<(), Memory>
+        ensures room { OnOk result (HasRoom self.new.frames.items count) }
+        ensures place { (nodes : List Node) → place_of nodes self.new.frames.items ≡ place_of nodes self.old.frames.items }
+        ensures fits { (nodes : List Node) → FramesFit nodes self.old.frames.items → FramesFit nodes self.new.frames.items }
+        ensures name { self.new.name ≡ self.old.name }
+        ensures forks { self.new.forks ≡ self.old.forks }
+    {
+        if let Some(frame) = self.frames.last_mut() {
+            frame.binds.reserve(count)?;
+        }
+        Ok(())
+    }
+
+    /// The top frame, which has room, gets one more variable.
+    pub fn bind(&mut self, bind: Bind)
+        requires { HasRoom self.old.frames.items 1 }
+        ensures place { (nodes : List Node) → place_of nodes self.new.frames.items ≡ bound_in bind.name (value_as bind.value) (place_of nodes self.old.frames.items) }
+        ensures room { (n : ℕ) → HasRoom self.old.frames.items (n + 1) → HasRoom self.new.frames.items n }
+        ensures fits { (nodes : List Node) → FramesFit nodes self.old.frames.items → FramesFit nodes self.new.frames.items }
+        ensures name { self.new.name ≡ self.old.name }
+        ensures forks { self.new.forks ≡ self.old.forks }
+    {
+        if let Some(frame) = self.frames.last_mut() {
+            let _pushed = frame.binds.push(bind);
+        }
+    }
+}
