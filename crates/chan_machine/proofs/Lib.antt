@@ -1,8 +1,7 @@
-pub mod Frames
 pub mod Maps
-pub mod TaskSteps
-pub mod Alone
-pub mod FirstActs
-pub mod RoundOfOne
-pub mod EndingOfOne
-pub mod Samples
+pub mod Depths
+pub mod ReadValues
+pub mod Weighing
+pub mod ActKinds
+pub mod Keeping
+pub mod Places

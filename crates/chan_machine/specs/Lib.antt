@@ -1,4 +1,6 @@
 pub mod Reading
+pub mod Troubles
+pub mod Kinds
 pub mod Fits
-pub mod Runs
-pub mod Samples
+pub mod Naming
+pub mod Moving

@@ -108,18 +108,18 @@ caller_at (body.Call span pat func values proof next) env = record { name = pat.
 caller_at other env = record { name = []; rest = other; env = env }
 
 abbrev pub caller_of : List Node → Frame → configuration.Caller
-caller_of nodes frame = caller_at (rest nodes frame.node) (env_of frame.binds)
+caller_of nodes frame = caller_at (rest nodes frame.node) (env_of frame.binds.items)
 
 -- the frames, from the top one to the bottom one, as a place
 abbrev pub place_from : List Node → List Frame → configuration.Place
 place_from nodes [] = configuration.Ended
-place_from nodes (top ∷ callers) = configuration.Running (rest nodes top.node) (env_of top.binds) (map (caller_of nodes) callers)
+place_from nodes (top ∷ callers) = configuration.Running (rest nodes top.node) (env_of top.binds.items) (map (caller_of nodes) callers)
 
 abbrev pub place_of : List Node → List Frame → configuration.Place
 place_of nodes frames = place_from nodes (reverse frames)
 
 abbrev pub task_of : List Node → Task → configuration.Task
-task_of nodes task = record { place = place_of nodes task.frames; forks = task.forks }
+task_of nodes task = record { place = place_of nodes task.frames.items; forks = task.forks }
 
 abbrev pub read_entry : {X Y : Type 0} → (X → Y) → Name × X → Name × Y
 read_entry f e = (e.0, f e.1)

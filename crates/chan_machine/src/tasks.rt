@@ -4,9 +4,9 @@ use chan_base::Name;
 use chan_syntax::Ident;
 use sqlite_items::Items;
 
-pub type Binds = Items<Bind>;
+pub type Binds = Vec<Bind>;
 
-pub type Frames = Items<Frame>;
+pub type Frames = Vec<Frame>;
 
 pub type Tasks = Items<Task>;
 

@@ -1,5 +1,5 @@
 -- Where each number is reached in one way, the body at a number is made of those at the numbers that follow.
-use Rattle.std.proofs.Common.{◌≡◌, ℕ, zero, suc, ◌+◌, eqb, ◌<◌, ◌≤◌, List, [], ◌∷◌, ◌++◌, length, Some, slice_get, get_or, true, false, ⊎_elim, refl, sym, ap, ◌∙◌, subst, arith}
+use Rattle.std.proofs.Common.{◌≡◌, ℕ, zero, suc, ◌+◌, eqb, ◌<◌, ◌≤◌, List, [], ◌∷◌, ◌++◌, length, Some, slice_get, get_or, map, true, false, ⊎_elim, refl, sym, ap, ◌∙◌, subst, arith}
 use Rattle.std.proofs.lemmas.Option.{slice_get_cases, slice_get_read}
 use Rattle.std.proofs.lemmas.List.{length_push}
 use Rattle.std.proofs.lemmas.Bool.{eqb-true, ne_eqb, or_cases}
@@ -9,7 +9,7 @@ use Rattle.core_language.specs.Programs as core
 use Rattle.core_programs.specs.declared.nodes.Node.{Node}
 use Rattle.core_programs.specs.declared.nodes.Node.TheVariants as node
 use Rattle.core_programs.specs.declared.nodes.Parts.{Parts}
-use Rattle.chan_syntax.specs.Reading.{term_of}
+use Rattle.chan_syntax.specs.Reading.{term_of, ref_of, supply_of, pat_of, letter_of, proof_of}
 use Rattle.core_programs.specs.Bodies.{span_of, opened, opened_at, rest_within, rest}
 use Rattle.core_programs.specs.Formed.{nexts, Leads, Reaches, IsNumbered}
 
@@ -19,8 +19,25 @@ Ends zero nodes n = ⊥
 Ends (suc d) nodes n = (x : Node) × (slice_get nodes n ≡ Some x) × ((k m : ℕ) → slice_get (nexts x) k ≡ Some m → Ends d nodes m)
 
 opened_same : (x : Node) (f g : ℕ → core.Body) → ((k m : ℕ) → slice_get (nexts x) k ≡ Some m → f m ≡ g m) → opened x f ≡ opened x g
+opened_same (node.Let name name_at term next span) f g same = ap (core.Let (span_of span) name (term_of term)) (same 0 next refl)
+opened_same (node.Mul name name_at left right next span) f g same = ap (core.Mul (span_of span) name (term_of left) (term_of right)) (same 0 next refl)
+opened_same (node.Div name name_at term divisor divisor_at next span) f g same = ap (core.Div (span_of span) name (term_of term) divisor) (same 0 next refl)
+opened_same (node.Rem name name_at term divisor divisor_at next span) f g same = ap (core.Rem (span_of span) name (term_of term) divisor) (same 0 next refl)
+opened_same (node.Call pat func func_at values proof next span) f g same = ap (core.Call (span_of span) (pat_of pat) func (map supply_of values) (proof_of proof)) (same 0 next refl)
+opened_same (node.Tail func func_at values proof span) f g same = refl
+opened_same (node.Fork name name_at proto func func_at values proof next span) f g same = ap (core.Fork (span_of span) name (ref_of proto) func (map supply_of values) (proof_of proof)) (same 0 next refl)
+opened_same (node.Send1 channel channel_at path path_at value proof next span) f g same = ap (core.Send1 (span_of span) channel (map letter_of path) (supply_of value) (proof_of proof)) (same 0 next refl)
+opened_same (node.Recv1 pat channel channel_at path path_at proof next span) f g same = ap (core.Recv1 (span_of span) (pat_of pat) channel (map letter_of path) (proof_of proof)) (same 0 next refl)
 opened_same (node.Print term next span) f g same = ap (core.Print (span_of span) (term_of term)) (same 0 next refl)
-opened_same (node.Ret value span) f g same = refl
+opened_same (node.If left right this other span) f g same =
+    ap (λ b. core.If (span_of span) (term_of left) (term_of right) b (f other)) (same 0 this refl)
+    ∙ ap (core.If (span_of span) (term_of left) (term_of right) (g this)) (same 1 other refl)
+opened_same (node.Split first second name name_at next span) f g same = ap (core.Split (span_of span) (pat_of first) (pat_of second) name) (same 0 next refl)
+opened_same (node.Match name name_at left this right other span) f g same =
+    ap (λ b. core.Match (span_of span) name (pat_of left) b (pat_of right) (f other)) (same 0 this refl)
+    ∙ ap (core.Match (span_of span) name (pat_of left) (g this) (pat_of right)) (same 1 other refl)
+opened_same (node.Absurd proof span) f g same = refl
+opened_same (node.Ret value proof span) f g same = refl
 
 -- a greater depth reads the same body
 deeper : (d e : ℕ) (nodes : List Node) (n : ℕ) → Ends d nodes n → d ≤ e → rest_within e nodes n ≡ rest_within d nodes n

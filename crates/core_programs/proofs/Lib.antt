@@ -1,2 +1,4 @@
 pub mod Forests
 pub mod Chains
+pub mod Functions
+pub mod ReadSupplies

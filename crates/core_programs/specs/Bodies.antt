@@ -1,5 +1,6 @@
 -- The program that its parts make: numbered nodes read as trees.
-use Rattle.std.specs.Prelude.{ℕ, zero, suc, List, [], map, length, Option, Some, None, slice_get}
+use Rattle.std.specs.Prelude.{ℕ, zero, suc, if◌then◌else◌, List, [], ◌∷◌, map, length, Option, Some, None, slice_get}
+use Rattle.core_language.specs.Names.{Ident, same}
 use Rattle.core_language.specs.Operands as operand
 use Rattle.core_language.specs.Programs as core
 use Rattle.chan_syntax.specs.declared.identifiers.Span.{Span}
@@ -8,7 +9,7 @@ use Rattle.core_programs.specs.declared.nodes.Node.{Node}
 use Rattle.core_programs.specs.declared.nodes.Node.TheVariants as node
 use Rattle.core_programs.specs.declared.nodes.Func.{Func}
 use Rattle.core_programs.specs.declared.nodes.Parts.{Parts}
-use Rattle.chan_syntax.specs.Reading.{term_of, bound_of, shape_of, res_of, proto_of, supply_of}
+use Rattle.chan_syntax.specs.Reading.{term_of, bound_of, ref_of, shape_of, res_of, proto_of, supply_of, pat_of, letter_of, proof_of}
 
 abbrev pub span_of : Span → core.Span
 span_of span = record { start = span.start; stop = span.stop; line = span.line; column = span.column }
@@ -19,8 +20,24 @@ no_proof = record { instances = []; certs = [] }
 
 -- the body at a node, by the bodies at the numbers that it names
 abbrev pub opened : Node → (ℕ → core.Body) → core.Body
+opened (node.Let name name_at term next span) at = core.Let (span_of span) name (term_of term) (at next)
+opened (node.Mul name name_at left right next span) at = core.Mul (span_of span) name (term_of left) (term_of right) (at next)
+opened (node.Div name name_at term divisor divisor_at next span) at = core.Div (span_of span) name (term_of term) divisor (at next)
+opened (node.Rem name name_at term divisor divisor_at next span) at = core.Rem (span_of span) name (term_of term) divisor (at next)
+opened (node.Call pat func func_at values proof next span) at = core.Call (span_of span) (pat_of pat) func (map supply_of values) (proof_of proof) (at next)
+opened (node.Tail func func_at values proof span) at = core.Tail (span_of span) func (map supply_of values) (proof_of proof)
+opened (node.Fork name name_at proto func func_at values proof next span) at =
+    core.Fork (span_of span) name (ref_of proto) func (map supply_of values) (proof_of proof) (at next)
+opened (node.Send1 channel channel_at path path_at value proof next span) at =
+    core.Send1 (span_of span) channel (map letter_of path) (supply_of value) (proof_of proof) (at next)
+opened (node.Recv1 pat channel channel_at path path_at proof next span) at =
+    core.Recv1 (span_of span) (pat_of pat) channel (map letter_of path) (proof_of proof) (at next)
 opened (node.Print term next span) at = core.Print (span_of span) (term_of term) (at next)
-opened (node.Ret value span) at = core.Ret (span_of span) (supply_of value) no_proof
+opened (node.If left right this other span) at = core.If (span_of span) (term_of left) (term_of right) (at this) (at other)
+opened (node.Split first second name name_at next span) at = core.Split (span_of span) (pat_of first) (pat_of second) name (at next)
+opened (node.Match name name_at left this right other span) at = core.Match (span_of span) name (pat_of left) (at this) (pat_of right) (at other)
+opened (node.Absurd proof span) at = core.Absurd (span_of span) (proof_of proof)
+opened (node.Ret value proof span) at = core.Ret (span_of span) (supply_of value) (proof_of proof)
 
 -- what stands for a body where there is no node; no function of a program comes to it
 abbrev pub nowhere : core.Body
@@ -54,3 +71,8 @@ function_of nodes func = record {
 
 abbrev pub program_of : Parts → core.Program
 program_of parts = record { protos = map proto_of parts.protos; funcs = map (function_of parts.nodes) parts.funcs }
+
+-- the first function with this name
+abbrev pub func_named : Ident → List Func → Option Func
+func_named name [] = None
+func_named name (f ∷ fs) = if same f.name name then Some f else func_named name fs

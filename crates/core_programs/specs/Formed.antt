@@ -1,20 +1,29 @@
 -- What makes the parts of a program well formed.
-use Rattle.std.specs.Prelude.{◌≡◌, ℕ, ◌<◌, ◌^◌, codes, pos, false, List, [], ◌∷◌, length, Some, None, slice_get}
-use Rattle.core_language.specs.Terms as core
-use Rattle.core_language.specs.Resources as resource
-use Rattle.chan_syntax.specs.declared.operands.Supply.TheVariants as supply
+use Rattle.std.specs.Prelude.{◌≡◌, ℕ, ◌<◌, ◌^◌, List, [], ◌∷◌, length, Some, slice_get}
 use Rattle.core_programs.specs.declared.nodes.Node.{Node}
 use Rattle.core_programs.specs.declared.nodes.Node.TheVariants as node
 use Rattle.core_programs.specs.declared.nodes.Func.{Func}
 use Rattle.core_programs.specs.declared.nodes.Parts.{Parts}
-use Rattle.chan_syntax.specs.Reading.{term_of, bound_of, res_of}
 
 -- ---- numbers of nodes
 
 -- the numbers of the nodes that may follow
 abbrev pub nexts : Node → List ℕ
+nexts (node.Let name name_at term next span) = next ∷ []
+nexts (node.Mul name name_at left right next span) = next ∷ []
+nexts (node.Div name name_at term divisor divisor_at next span) = next ∷ []
+nexts (node.Rem name name_at term divisor divisor_at next span) = next ∷ []
+nexts (node.Call pat func func_at values proof next span) = next ∷ []
+nexts (node.Tail func func_at values proof span) = []
+nexts (node.Fork name name_at proto func func_at values proof next span) = next ∷ []
+nexts (node.Send1 channel channel_at path path_at value proof next span) = next ∷ []
+nexts (node.Recv1 pat channel channel_at path path_at proof next span) = next ∷ []
 nexts (node.Print term next span) = next ∷ []
-nexts (node.Ret value span) = []
+nexts (node.If left right this other span) = this ∷ other ∷ []
+nexts (node.Split first second name name_at next span) = next ∷ []
+nexts (node.Match name name_at left this right other span) = this ∷ other ∷ []
+nexts (node.Absurd proof span) = []
+nexts (node.Ret value proof span) = []
 
 -- each number of a node that may follow is below
 abbrev pub LeadBelow : Node → ℕ → Type 0
@@ -40,30 +49,17 @@ pub record IsNumbered (parts : Parts) : Type 0 where
   pub follow : (n : ℕ) (x : Node) → slice_get parts.nodes n ≡ Some x → LeadBelow x (length parts.nodes)
   pub once : (n : ℕ) → n < length parts.nodes → IsReachedOnce parts n
 
--- ---- the first form
+-- ---- numbers in nodes
 
--- one number from 0 to 9223372036854775807
-abbrev pub IsNumber : core.Term → Type 0
-IsNumber term = (k : ℕ) × (k < 2 ^ 63) × (term ≡ record { negative = false; factor = pos k; name = None } ∷ [])
+abbrev pub IsDivisor : ℕ → Type 0
+IsDivisor n = (0 < n) × (n < 2 ^ 63)
 
--- a node that prints one number, or returns the unit
-abbrev pub IsFirstNode : Node → Type 0
-IsFirstNode (node.Print term next span) = IsNumber (term_of term)
-IsFirstNode (node.Ret value span) = value ≡ supply.Unit
+-- where the node divides, its divisor is positive and within 64 bits
+abbrev pub HasDivisor : Node → Type 0
+HasDivisor (node.Div name name_at term divisor divisor_at next span) = IsDivisor divisor
+HasDivisor (node.Rem name name_at term divisor divisor_at next span) = IsDivisor divisor
+HasDivisor other = Unit {0}
 
-abbrev pub no_bound : core.Bound
-no_bound = record { names = []; limits = [] }
-
--- `main`, without binders and parameters, of the result `unit`
-pub record IsFirstMain (func : Func) : Type 0 where
-  pub name : func.name ≡ codes "main"
-  pub no_binder : bound_of func.bound ≡ no_bound
-  pub no_param : func.params ≡ []
-  pub result : res_of func.result ≡ resource.Binds no_bound resource.Unit
-
--- one function `main`, that prints numbers and returns the unit
-pub record IsFirstForm (parts : Parts) : Type 0 where
+pub record IsFormed (parts : Parts) : Type 0 where
   pub numbered : IsNumbered parts
-  pub no_proto : parts.protos ≡ []
-  pub main : (func : Func) × (parts.funcs ≡ func ∷ []) × IsFirstMain func
-  pub plain : (n : ℕ) (x : Node) → slice_get parts.nodes n ≡ Some x → IsFirstNode x
+  pub divisors : (n : ℕ) (x : Node) → slice_get parts.nodes n ≡ Some x → HasDivisor x

@@ -1,11 +1,10 @@
 //! Programs that are well formed.
-ghost use Rattle.std.specs.Prelude.{◌≡◌, ◌<◌, ◌≤◌, length, slice_get, Some, IfOk, OnErr, IsErrOf};
-ghost use Rattle.std.specs.Option.{option_map};
-ghost use Rattle.core_language.specs.Programs.{main_function};
-ghost use Rattle.core_programs.specs.Bodies.{opened, rest, program_of};
-ghost use Rattle.core_programs.specs.Formed.{IsFirstForm, IsFirstNode, LeadBelow};
+ghost use Rattle.std.specs.Prelude.{◌≡◌, ◌<◌, length, IfSome, IfOk, OnErr, IsErrOf};
+ghost use Rattle.std.specs.Option.{option_copied};
+ghost use Rattle.core_programs.specs.Bodies.{opened, rest, func_named};
+ghost use Rattle.core_programs.specs.Formed.{IsFormed, HasDivisor, LeadBelow};
 
-use crate::nodes::{Node, Parts};
+use crate::nodes::{Func, Node, Parts};
 use chan_syntax::{Idents, Span};
 use std::marker::Model;
 
@@ -50,16 +49,16 @@ impl Model for Program {
 
     ghost coded = { whole.the_row.coded };
 
-    ghost use Rattle.core_programs.specs.Formed.{IsFirstForm};
+    ghost use Rattle.core_programs.specs.Formed.{IsFormed};
 
     ghost view = { λ p. p.parts };
 
-    ghost invariant = { λ p. IsFirstForm p.parts };
+    ghost invariant = { λ p. IsFormed p.parts };
 }
 
 impl Program {
     pub fn build(parts: Parts) -> Result<Program, BuildFault>
-        requires { IsFirstForm parts }
+        requires { IsFormed parts }
         ensures ok { IfOk result (λ program. program ≡ parts) }
         ensures err { OnErr result (IsErrOf result BuildFault.Memory) }
     {
@@ -68,7 +67,7 @@ impl Program {
 
     pub fn parts(&self) -> &Parts
         ensures parts { result.now ≡ self.now }
-        ensures formed { IsFirstForm self.now }
+        ensures formed { IsFormed self.now }
     {
         &self.parts
     }
@@ -78,20 +77,31 @@ impl Program {
         requires { number < length self.now.nodes }
         ensures opens { rest self.now.nodes number ≡ opened result.now (rest self.now.nodes) }
         ensures leads { LeadBelow result.now (length self.now.nodes) }
-        ensures first { IsFirstNode result.now }
+        ensures divisor { HasDivisor result.now }
     {
         let parts = self.parts();
         let nodes = parts.nodes.as_slice();
         &nodes[number as usize]
     }
 
-    /// The number of the first node of `main`.
-    pub fn main(&self) -> u32
-        ensures within { result < length self.now.nodes }
-        ensures body { option_map (λ f. f.body) (main_function (program_of self.now)) ≡ Some (rest self.now.nodes result) }
+    /// The function with this name.
+    pub fn func(&self, name: &[u8]) -> Option<&Func>
+        ensures named { option_copied result ≡ func_named name.now self.now.funcs }
+        ensures first { IfSome result (λ f. f.now.first < length self.now.nodes) }
     {
         let parts = self.parts();
-        let funcs = parts.funcs.as_slice();
-        funcs[0].first
+        find_func(parts.funcs.as_slice(), name)
     }
+}
+
+/// The first of the functions with this name.
+fn find_func<'a>(funcs: &'a [Func], name: &[u8]) -> Option<&'a Func>
+    ensures { option_copied result ≡ func_named name.now funcs.now }
+{
+    'funcs: for func in funcs {
+        if func.name.as_slice() == name {
+            return Some(func);
+        }
+    }
+    None
 }

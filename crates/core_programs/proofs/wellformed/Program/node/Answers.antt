@@ -11,7 +11,7 @@ returns-clause-leads c =
     c.parts-parts.ensures.formed.numbered.follow _ _
     (read_at c.args.self.now _ _ _ _ c.as_slice-nodes.ensures c.parts-parts.ensures.parts c.requires c.index-nodes-number.is)
 
-pub returns-clause-first : goal.returns-clause-first
-returns-clause-first c =
-    c.parts-parts.ensures.formed.plain _ _
+pub returns-clause-divisor : goal.returns-clause-divisor
+returns-clause-divisor c =
+    c.parts-parts.ensures.formed.divisors _ _
     (read_at c.args.self.now _ _ _ _ c.as_slice-nodes.ensures c.parts-parts.ensures.parts c.requires c.index-nodes-number.is)

@@ -1,0 +1,167 @@
+//! What a task does next, told without memory.
+ghost use Rattle.std.specs.Prelude.{◌≡◌, ℕ, List, [], length, nat_lt, if◌then◌else◌};
+ghost use Rattle.std.specs.Option.{option_map};
+ghost use Rattle.core_language.specs.Programs.{Body, Program as CoreProgram};
+ghost use Rattle.core_language.specs.Computing.{machine, Depth};
+ghost use Rattle.core_language.specs.Values as core;
+ghost use Rattle.core_language.specs.Configurations.{Caller, Place};
+ghost use Rattle.core_language.specs.Acts.{act_of, act_at as act_at_body, on_pair, on_sum, Silent as Silently};
+ghost use Rattle.core_language.specs.Endings.{is_nil};
+ghost use Rattle.core_programs.specs.Bodies.{opened, program_of};
+ghost use Rattle.core_programs.specs.Formed.{HasDivisor};
+ghost use Rattle.chan_machine.specs.Reading.{env_of, place_of, value_as};
+ghost use Rattle.chan_machine.specs.Fits.{FramesFit};
+ghost use Rattle.chan_machine.specs.Troubles.{computed_of, done_of};
+ghost use Rattle.chan_machine.specs.Kinds.{Silent, End, Fork, IsHalted, kind_as, kind_of, kind_after, kind_at_end, print_after};
+
+use crate::computing::{Trouble, lookup, product_of_sums, quotient, remainder, sum};
+use crate::events::{Halt, StuckWhy};
+use crate::supplying::{weigh_all, weighed};
+use crate::tasks::{Bind, Task};
+use crate::values::Value;
+use chan_base::Name;
+use core_programs::{Node, Program};
+
+/// What a task does next, where the channel of a send is Empty and that of a receive is Full.
+#[derive(Debug, Drop)]
+pub enum Act {
+    Silent,
+    Print(i64),
+    Fork,
+    Send,
+    Recv,
+    End,
+    Ended,
+    Halts(Halt),
+    Stuck(StuckWhy),
+}
+
+/// The act, once there is a result.
+fn after(done: Result<(), Trouble>, act: Act) -> Act
+    ensures { kind_as result ≡ kind_after (computed_of done) (kind_as act) }
+{
+    match done {
+        Ok(()) => act,
+        Err(Trouble::Stuck(why)) => Act::Stuck(why),
+        Err(Trouble::Halts(why)) => Act::Halts(why),
+    }
+}
+
+fn after_number(number: Result<i64, Trouble>, act: Act) -> Act
+    ensures { kind_as result ≡ kind_after (computed_of number) (kind_as act) }
+{
+    match number {
+        Ok(_) => act,
+        Err(Trouble::Stuck(why)) => Act::Stuck(why),
+        Err(Trouble::Halts(why)) => Act::Halts(why),
+    }
+}
+
+fn print(number: Result<i64, Trouble>) -> Act
+    ensures { kind_as result ≡ print_after (computed_of number) }
+{
+    match number {
+        Ok(number) => Act::Print(number),
+        Err(Trouble::Stuck(why)) => Act::Stuck(why),
+        Err(Trouble::Halts(why)) => Act::Halts(why),
+    }
+}
+
+fn fork(name: &Name) -> Act
+    ensures { kind_as result ≡ (if nat_lt (length name.now) 1024 then Fork else IsHalted Depth) }
+{
+    if name.parts() < 1024 {
+        Act::Fork
+    } else {
+        Act::Halts(Halt::Depth)
+    }
+}
+
+/// The act, where the value is an end.
+fn at_end(value: Option<&Value>, act: Act) -> Act
+    ensures { kind_as result ≡ kind_at_end (option_map (λ v. value_as v.now) value.entry) (kind_as act) }
+{
+    match value {
+        Some(Value::End(_)) => act,
+        _ => Act::Stuck(StuckWhy::NotEnd),
+    }
+}
+
+fn at_pair(value: Option<&Value>) -> Act
+    ensures { (go : core.Value → core.Value → Place) → kind_as result ≡ kind_of (on_pair (option_map (λ v. value_as v.now) value.entry) (λ a b. Silently (go a b))) }
+{
+    match value {
+        Some(Value::Pair(_, _)) => Act::Silent,
+        _ => Act::Stuck(StuckWhy::NotPair),
+    }
+}
+
+fn at_sum(value: Option<&Value>) -> Act
+    ensures { (left right : core.Value → Place) → kind_as result ≡ kind_of (on_sum (option_map (λ v. value_as v.now) value.entry) (λ a. Silently (left a)) (λ a. Silently (right a))) }
+{
+    match value {
+        Some(Value::Left(_)) => Act::Silent,
+        Some(Value::Right(_)) => Act::Silent,
+        _ => Act::Stuck(StuckWhy::NotSum),
+    }
+}
+
+fn returned(last: bool) -> Act
+    ensures { kind_as result ≡ (if last then End else Silent) }
+{
+    if last { Act::End } else { Act::Silent }
+}
+
+/// The act of the task with this name at the node; `last` says that its frame has no caller.
+fn act_at(name: &Name, node: &Node, binds: &[Bind], last: bool) -> Act
+    requires { HasDivisor node.now }
+    ensures { (program : CoreProgram) (forks : ℕ) (at : ℕ → Body) (callers : List Caller) → is_nil callers ≡ last
+        → kind_as result ≡ kind_of (act_at_body machine program name.now forks (opened node.now at) (env_of binds.now) callers) }
+{
+    match node {
+        Node::Let { term, .. } => after_number(sum(binds, term), Act::Silent),
+        Node::Mul { left, right, .. } => {
+            after_number(product_of_sums(binds, left, right), Act::Silent)
+        }
+        Node::Div { term, divisor, .. } => {
+            after_number(quotient(binds, term, *divisor), Act::Silent)
+        }
+        Node::Rem { term, divisor, .. } => {
+            after_number(remainder(binds, term, *divisor), Act::Silent)
+        }
+        Node::Call { values, .. } => after(weigh_all(binds, values.as_slice()), Act::Silent),
+        Node::Tail { values, .. } => after(weigh_all(binds, values.as_slice()), Act::Silent),
+        Node::Fork { values, .. } => after(weigh_all(binds, values.as_slice()), fork(name)),
+        Node::Send1 { channel, value, .. } => after(
+            weighed(binds, value),
+            at_end(lookup(binds, channel), Act::Send),
+        ),
+        Node::Recv1 { channel, .. } => at_end(lookup(binds, channel), Act::Recv),
+        Node::Print { term, .. } => print(sum(binds, term)),
+        Node::If { left, right, .. } => after_number(
+            sum(binds, left),
+            after_number(sum(binds, right), Act::Silent),
+        ),
+        Node::Split { name: pair, .. } => at_pair(lookup(binds, pair)),
+        Node::Match { name: choice, .. } => at_sum(lookup(binds, choice)),
+        Node::Absurd { .. } => Act::Stuck(StuckWhy::Absurd),
+        Node::Ret { value, .. } => after(weighed(binds, value), returned(last)),
+    }
+}
+
+impl Task {
+    /// What the task does next, where the channel of a send is Empty and that of a receive is Full.
+    pub fn act(&self, program: &Program) -> Act
+        requires fits { FramesFit program.now.nodes self.now.frames.items }
+        ensures { kind_as result ≡ kind_of (act_of machine (program_of program.now) self.now.name self.now.forks (place_of program.now.nodes self.now.frames.items)) }
+    {
+        match self.frames.as_slice().last() {
+            Some(frame) => {
+                let node = program.node(frame.node);
+                let last = self.frames.len() == 1;
+                act_at(&self.name, node, frame.binds.as_slice(), last)
+            }
+            None => Act::Ended,
+        }
+    }
+}
