@@ -18,7 +18,7 @@ use Rattle.core_programs.specs.declared.nodes.Parts.{Parts}
 use Rattle.core_programs.specs.Formed.{IsNumbered}
 
 -- the node of a statement, where the node of this number follows
-unfoldable pub IsNodeOf : Stmt → ℕ → Node → Type 0
+abbrev pub IsNodeOf : Stmt → ℕ → Node → Type 0
 IsNodeOf (Let n at t span) next x = x ≡ node.Let n at t next span
 IsNodeOf (Mul n at a b span) next x = x ≡ node.Mul n at a b next span
 IsNodeOf (Div n at t k kt span) next x = x ≡ node.Div n at t k kt next span
@@ -35,29 +35,38 @@ IsNodeOf session next x = ⊥
 abbrev pub At : List Node → ℕ → Node → Type 0
 At nodes n x = slice_get nodes n ≡ Some x
 
+-- the statements lead from one number to another
+abbrev pub StmtsAt : List Node → List Stmt → ℕ → ℕ → Type 0
+StmtsAt nodes [] n m = n ≡ m
+StmtsAt nodes (s ∷ ss) n m = (x : Node) × (next : ℕ) × At nodes n x × IsNodeOf s next x × StmtsAt nodes ss next m
+
+-- and so do the statements of a block that a last holds
+abbrev pub RowAt : {k : _} → List Node → Row_of-Stmt k → ℕ → ℕ → Type 0
+RowAt nodes end_of-Stmt n m = n ≡ m
+RowAt nodes (more_of-Stmt s rest) n m = (x : Node) × (next : ℕ) × At nodes n x × IsNodeOf s next x × RowAt nodes rest next m
+
 unfoldable mutual
   -- the body at the number is this last
   pub EndsAt : List Node → Last → ℕ → Type 0
   EndsAt nodes (Ret v q span) n = At nodes n (node.Ret v q span)
   EndsAt nodes (Tail f at vs q span) n = At nodes n (node.Tail f at vs q span)
-  EndsAt nodes (If' a b _ ss _ l _ ss' _ l' span) n = (i j : ℕ) × At nodes n (node.If a b i j span) × GoesAt nodes ss l i × GoesAt nodes ss' l' j
-  EndsAt nodes (Match' x at p _ ss _ l q _ ss' _ l' span) n = (i j : ℕ) × At nodes n (node.Match x at p i q j span) × GoesAt nodes ss l i × GoesAt nodes ss' l' j
+  EndsAt nodes (If' a b _ ss _ l _ ss' _ l' span) n =
+      (i j k m : ℕ) × At nodes n (node.If a b i j span) × RowAt nodes ss i k × BoxedAt nodes l k × RowAt nodes ss' j m × BoxedAt nodes l' m
+  EndsAt nodes (Match' x at p _ ss _ l q _ ss' _ l' span) n =
+      (i j k m : ℕ) × At nodes n (node.Match x at p i q j span) × RowAt nodes ss i k × BoxedAt nodes l k × RowAt nodes ss' j m × BoxedAt nodes l' m
+  EndsAt nodes (Branch' _ _ _ _ _ _ _ _ _ _ _ _ _ _ _ _ _ _) n = ⊥
   EndsAt nodes (Absurd q span) n = At nodes n (node.Absurd q span)
-  EndsAt nodes session n = ⊥
+  EndsAt nodes (Loop' _ _ _ _ _ _ _ _ _ _ _) n = ⊥
+  EndsAt nodes (Again _ _ _) n = ⊥
 
-  -- the body at the number has these statements, and then what a box holds
-  pub GoesAt : {m k : _} → List Node → Row_of-Stmt m → Row_of-Last k → ℕ → Type 0
-  GoesAt nodes end_of-Stmt last n = BoxedAt nodes last n
-  GoesAt nodes (more_of-Stmt s rest) last n = (x : Node) × (next : ℕ) × At nodes n x × IsNodeOf s next x × GoesAt nodes rest last next
-
+  -- what a box holds
   pub BoxedAt : {k : _} → List Node → Row_of-Last k → ℕ → Type 0
   BoxedAt nodes end_of-Last n = ⊥
   BoxedAt nodes (more_of-Last x rest) n = EndsAt nodes x n
 
--- the body at the number has these statements, and then this last
-unfoldable pub IsBodyAt : List Node → List Stmt → Last → ℕ → Type 0
-IsBodyAt nodes [] last n = EndsAt nodes last n
-IsBodyAt nodes (s ∷ ss) last n = (x : Node) × (next : ℕ) × At nodes n x × IsNodeOf s next x × IsBodyAt nodes ss last next
+-- the body at the number has the statements of the block, and then its last
+abbrev pub IsBodyAt : List Node → Block → ℕ → Type 0
+IsBodyAt nodes b n = (m : ℕ) × StmtsAt nodes b.stmts n m × EndsAt nodes b.last m
 
 abbrev pub proto_of : SurfaceProto → Equation → Proto
 proto_of p e = record { name = p.name; name_span = p.name_span; params = p.params; params_spans = p.params_spans; equation = e; span = p.span }
@@ -71,7 +80,7 @@ AreOf nodes [] protos funcs = (protos ≡ []) × (funcs ≡ [])
 AreOf nodes (decl.Proto p ∷ ds) protos funcs =
     (e : Equation) × (more : List Proto) × (p.body ≡ body.Plain e) × (protos ≡ proto_of p e ∷ more) × AreOf nodes ds more funcs
 AreOf nodes (decl.Func f ∷ ds) protos funcs =
-    (first : ℕ) × (more : List Func) × (funcs ≡ func_of f first ∷ more) × IsBodyAt nodes f.block.stmts f.block.last first × AreOf nodes ds protos more
+    (first : ℕ) × (more : List Func) × (funcs ≡ func_of f first ∷ more) × IsBodyAt nodes f.block first × AreOf nodes ds protos more
 
 -- the parts are those of the tree, and each node is used once
 pub record IsLowered (surface : Surface) (parts : Parts) : Type 0 where

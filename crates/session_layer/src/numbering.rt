@@ -2,9 +2,8 @@
 //! that it names, so that its number is known when it is named.
 ghost use Rattle.std.specs.Prelude.{◌≡◌, ◌<◌, ◌^◌, ◌++◌, ◌∷◌, [], true, length, IfOk};
 ghost use Rattle.std.specs.List.{list_all};
-ghost use Rattle.chan_syntax.specs.declared.surface_tree.Last as tree;
 ghost use Rattle.session_layer.specs.Core.{is_core_stmt, is_core_last, is_core_block};
-ghost use Rattle.session_layer.specs.Lowering.{EndsAt, IsBodyAt};
+ghost use Rattle.session_layer.specs.Lowering.{StmtsAt, EndsAt, IsBodyAt};
 ghost use Rattle.session_layer.specs.Rooted.{Adds, AddsTwo};
 
 use crate::statements::{called, stmt_node};
@@ -39,7 +38,7 @@ fn number_stmts(
 ) -> Result<u32, Memory>
     requires core { list_all is_core_stmt stmts.now ≡ true }
     ensures adds { IfOk result (Adds nodes.old.items nodes.new.items (last ∷ [])) }
-    ensures body { IfOk result (λ n. (end : tree.Last) → EndsAt nodes.old.items end last → IsBodyAt nodes.new.items stmts.now end n) }
+    ensures body { IfOk result (λ n. StmtsAt nodes.new.items stmts.now n last) }
 {
     let mut next = last;
     let mut left = stmts.len();
@@ -150,8 +149,8 @@ fn number_two(
     requires yes { is_core_block yes.now ≡ true }
     requires no { is_core_block no.now ≡ true }
     ensures adds { IfOk result (AddsTwo nodes.old.items nodes.new.items) }
-    ensures first { IfOk result (λ p. IsBodyAt nodes.new.items yes.now.stmts yes.now.last p.0) }
-    ensures second { IfOk result (λ p. IsBodyAt nodes.new.items no.now.stmts no.now.last p.1) }
+    ensures first { IfOk result (λ p. IsBodyAt nodes.new.items yes.now p.0) }
+    ensures second { IfOk result (λ p. IsBodyAt nodes.new.items no.now p.1) }
 {
     let yes = number_block(alloc, nodes, yes)?;
     let no = number_block(alloc, nodes, no)?;
@@ -163,7 +162,7 @@ fn number_two(
 fn number_block(alloc: Global, nodes: &mut Vec<Node>, block: &Block) -> Result<u32, Memory>
     requires core { is_core_block block.now ≡ true }
     ensures adds { IfOk result (Adds nodes.old.items nodes.new.items []) }
-    ensures body { IfOk result (IsBodyAt nodes.new.items block.now.stmts block.now.last) }
+    ensures body { IfOk result (IsBodyAt nodes.new.items block.now) }
 {
     let last = number_last(alloc, nodes, block.last.get())?;
     let first = number_stmts(alloc, nodes, block.stmts.as_slice(), last)?;
