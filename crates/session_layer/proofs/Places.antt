@@ -16,9 +16,10 @@ at_left [] ys i lt = absurd (omega (arith, lt))
 at_left (x ∷ xs) ys zero lt = refl
 at_left (x ∷ xs) ys (suc i) lt = at_left xs ys i (omega (arith, lt))
 
-pub at_right : {X : Type 0} (xs ys : List X) (k : ℕ) → slice_get (xs ++ ys) (length xs + k) ≡ slice_get ys k
-at_right [] ys k = refl
-at_right (x ∷ xs) ys k = at_right xs ys k
+pub at_right : {X : Type 0} (xs ys : List X) (i k : ℕ) → i ≡ length xs + k → slice_get (xs ++ ys) i ≡ slice_get ys k
+at_right [] ys i k e = let same : i ≡ k = omega (arith, e) in ap (slice_get ys) same
+at_right (x ∷ xs) ys zero k e = absurd (omega (arith, e))
+at_right (x ∷ xs) ys (suc i) k e = at_right xs ys i k (omega (arith, e))
 
 pub at_end : {X : Type 0} (xs : List X) (x : X) → slice_get (xs ++ x ∷ []) (length xs) ≡ Some x
 at_end [] x = refl
@@ -27,9 +28,9 @@ at_end (y ∷ ys) x = at_end ys x
 -- a place of a list that was lengthened is one of the list, or one of what follows
 pub among_both : {X : Type 0} (xs ys : List X) (i : ℕ) (x : X) → slice_get (xs ++ ys) i ≡ Some x
     → ((i < length xs) × (slice_get xs i ≡ Some x)) ⊎ ((k : ℕ) × (i ≡ length xs + k) × (slice_get ys k ≡ Some x))
-among_both [] ys i x is = inr (i, refl, is)
+among_both [] ys i x is = inr (i, omega arith, is)
 among_both (y ∷ xs) ys zero x is = inl (omega arith, is)
-among_both (y ∷ xs) ys (suc i) x is = ⊎_elim (λ p. inl (omega (arith, p.0), p.1)) (λ p. inr (p.0, ap suc p.1, p.2)) (among_both xs ys i x is)
+among_both (y ∷ xs) ys (suc i) x is = ⊎_elim (λ p. inl (omega (arith, p.0), p.1)) (λ p. inr (p.0, omega (arith, p.1), p.2)) (among_both xs ys i x is)
 
 -- a place of a list with one more is one of the list, or the last
 pub among_pushed : {X : Type 0} (xs : List X) (last : X) (i : ℕ) (x : X) → slice_get (xs ++ last ∷ []) i ≡ Some x
@@ -37,7 +38,7 @@ pub among_pushed : {X : Type 0} (xs : List X) (last : X) (i : ℕ) (x : X) → s
 among_pushed [] last zero x is = let same : last ≡ x = cc in inr (refl, same)
 among_pushed [] last (suc i) x is = cc
 among_pushed (y ∷ xs) last zero x is = inl (omega arith, is)
-among_pushed (y ∷ xs) last (suc i) x is = ⊎_elim (λ p. inl (omega (arith, p.0), p.1)) (λ p. inr (ap suc p.0, p.1)) (among_pushed xs last i x is)
+among_pushed (y ∷ xs) last (suc i) x is = ⊎_elim (λ p. inl (omega (arith, p.0), p.1)) (λ p. inr (omega (arith, p.0), p.1)) (among_pushed xs last i x is)
 
 -- what stands in a mapped list is the image of what stands there
 pub at_mapped : {X Y : Type 0} (f : X → Y) (xs : List X) (i : ℕ) (y : Y) → slice_get (map f xs) i ≡ Some y → (x : X) × (slice_get xs i ≡ Some x) × (f x ≡ y)

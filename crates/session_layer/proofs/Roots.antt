@@ -39,7 +39,7 @@ module _ (nodes : List Node) (front : List ℕ) (x : Node) (rooted : IsRooted no
 
   -- what the node names is one of the roots before
   named : (k next : ℕ) → slice_get (nexts x) k ≡ Some next → slice_get (front ++ nexts x) (length front + k) ≡ Some next
-  named k next is = at_right front (nexts x) k ∙ is
+  named k next is = at_right front (nexts x) (length front + k) k refl ∙ is
 
   -- what the node names at its own number
   own : (y : Node) (k next : ℕ) → slice_get (nodes ++ x ∷ []) (length nodes) ≡ Some y → slice_get (nexts y) k ≡ Some next → slice_get (nexts x) k ≡ Some next
