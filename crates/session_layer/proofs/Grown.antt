@@ -107,3 +107,44 @@ pub stmts_before : (nodes after : List Node) (stmts : List Stmt) (left : ℕ) (s
 stmts_before nodes after stmts left s x next last lt is of longer rest =
     subst (λ ss. StmtsAt after ss (length nodes) last) (sym (at_drop_more (λ (ss : List Stmt). ss) stmts left s lt ∙ ap (λ y. y ∷ drop (left + 1) stmts) (sym is)))
     (x, next, ap (λ ns. slice_get ns (length nodes)) longer ∙ at_end nodes x, of, subst (λ ns. StmtsAt ns (drop (left + 1) stmts) next last) (sym longer) (kept_stmts nodes (x ∷ []) (drop (left + 1) stmts) next last rest))
+
+mutual
+  unfolding EndsAt BoxedAt
+
+  pub kept_last : (nodes more : List Node) (x : Last) (n : ℕ) → EndsAt nodes x n → EndsAt (nodes ++ more) x n
+  kept_last nodes more (Ret v q span) n at = kept_at nodes more n (node.Ret v q span) at
+  kept_last nodes more (Tail f ft vs q span) n at = kept_at nodes more n (node.Tail f ft vs q span) at
+  kept_last nodes more (If' a b _ ss _ l _ ss' _ l' span) n (i, j, k, m, at, row, ends, row', ends') =
+      (i, j, k, m, kept_at nodes more n (node.If a b i j span) at, kept_row nodes more ss i k row, kept_boxed nodes more l k ends, kept_row nodes more ss' j m row', kept_boxed nodes more l' m ends')
+  kept_last nodes more (Match' x xt p _ ss _ l q _ ss' _ l' span) n (i, j, k, m, at, row, ends, row', ends') =
+      (i, j, k, m, kept_at nodes more n (node.Match x xt p i q j span) at, kept_row nodes more ss i k row, kept_boxed nodes more l k ends, kept_row nodes more ss' j m row', kept_boxed nodes more l' m ends')
+  kept_last nodes more (Branch' _ _ _ _ _ _ _ _ _ _ _ _ _ _ _ _ _ _) n at = absurd at
+  kept_last nodes more (Absurd q span) n at = kept_at nodes more n (node.Absurd q span) at
+  kept_last nodes more (Loop' _ _ _ _ _ _ _ _ _ _ _) n at = absurd at
+  kept_last nodes more (Again _ _ _) n at = absurd at
+
+  kept_boxed : {k : _} (nodes more : List Node) (x : Row_of-Last k) (n : ℕ) → BoxedAt nodes x n → BoxedAt (nodes ++ more) x n
+  kept_boxed nodes more end_of-Last n at = absurd at
+  kept_boxed nodes more (more_of-Last x rest) n at = kept_last nodes more x n at
+
+pub kept_body : (nodes after more : List Node) (b : Block) (n : ℕ) → after ≡ nodes ++ more → IsBodyAt nodes b n → IsBodyAt after b n
+kept_body nodes after more b n longer (m, stmts, ends) =
+    subst (λ ns. IsBodyAt ns b n) (sym longer) (m, kept_stmts nodes more b.stmts n m stmts, kept_last nodes more b.last m ends)
+
+-- ---- lasts that hold blocks
+
+row_at : (nodes : List Node) (xs : List Stmt) (n m : ℕ) → StmtsAt nodes xs n m → RowAt nodes (back-the_row-Stmt (list_count (this {0}) (map ((this {0}).shape Stmt) xs) 0) (list_put (this {0}) Stmt xs 0 (tt {0}))) n m
+row_at nodes [] n m at = at
+row_at nodes (s ∷ ss) n m (x, next, is, of, rest) = (x, next, is, of, row_at nodes ss next m rest)
+
+pub ends_if : (nodes : List Node) (a b : Term) (this_block other : Block) (span : Span) (n i j : ℕ) → At nodes n (node.If a b i j span) → IsBodyAt nodes this_block i → IsBodyAt nodes other j
+    → EndsAt nodes (l.If a b this_block other span) n
+unfolding hidden hidden-the_row-Stmt-0 hidden-the_row-Last-1 EndsAt BoxedAt
+ends_if nodes a b this_block other span n i j at (k, stmts, ends) (m, stmts', ends') =
+    (i, j, k, m, at, row_at nodes this_block.stmts i k stmts, ends, row_at nodes other.stmts j m stmts', ends')
+
+pub ends_match : (nodes : List Node) (x : List ℕ) (xt : Span) (p : Pat) (this_block : Block) (q : Pat) (other : Block) (span : Span) (n i j : ℕ) → At nodes n (node.Match x xt p i q j span)
+    → IsBodyAt nodes this_block i → IsBodyAt nodes other j → EndsAt nodes (l.Match x xt p this_block q other span) n
+unfolding hidden hidden-the_row-Stmt-0 hidden-the_row-Last-1 EndsAt BoxedAt
+ends_match nodes x xt p this_block q other span n i j at (k, stmts, ends) (m, stmts', ends') =
+    (i, j, k, m, at, row_at nodes this_block.stmts i k stmts, ends, row_at nodes other.stmts j m stmts', ends')
