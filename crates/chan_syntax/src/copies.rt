@@ -3,7 +3,7 @@ ghost use Rattle.std.specs.Prelude.{◌≡◌, IfOk};
 
 use crate::identifiers::{Ident, Idents, Spans};
 use crate::linear::{Bound, Limit, Limits, Part, Term, TermParts, Terms};
-use crate::resources::{Ref, Res, Shape};
+use crate::resources::{Equation, Param, Params, Ref, Res, Shape};
 use chan_base::Memory;
 use sqlite_items::{Boxed, Items};
 use std::alloc::Global;
@@ -157,5 +157,59 @@ impl Res {
             bound: self.bound.copy(alloc)?,
             shape: self.shape.copy(alloc)?,
         })
+    }
+}
+
+impl Param {
+    pub fn copy(&self, alloc: Global) -> Result<Param, Memory>
+        ensures { IfOk result (λ copy. copy ≡ self.now) }
+    {
+        Ok(Param {
+            name: self.name.copy(alloc)?,
+            name_span: self.name_span,
+            shape: self.shape.copy(alloc)?,
+        })
+    }
+}
+
+pub fn copy_params(alloc: Global, params: &Params) -> Result<Params, Memory>
+    ensures { IfOk result (λ copy. copy ≡ params.now) }
+{
+    let mut copy = Items::new(alloc);
+    for param in params.as_slice() {
+        copy.push(param.copy(alloc)?)?;
+    }
+    Ok(copy)
+}
+
+fn copy_next(alloc: Global, next: &Option<Ref>) -> Result<Option<Ref>, Memory>
+    ensures { IfOk result (λ copy. copy ≡ next.now) }
+{
+    match next {
+        Some(next) => Ok(Some(next.copy(alloc)?)),
+        None => Ok(None),
+    }
+}
+
+impl Equation {
+    pub fn copy(&self, alloc: Global) -> Result<Equation, Memory>
+        ensures { IfOk result (λ copy. copy ≡ self.now) }
+    {
+        match self {
+            Equation::Send(res, next) => {
+                Ok(Equation::Send(res.copy(alloc)?, copy_next(alloc, next)?))
+            }
+            Equation::Recv(res, next) => {
+                Ok(Equation::Recv(res.copy(alloc)?, copy_next(alloc, next)?))
+            }
+            Equation::Close => Ok(Equation::Close),
+            Equation::Wait => Ok(Equation::Wait),
+            Equation::Branch(left, right, yes, no) => Ok(Equation::Branch(
+                left.copy(alloc)?,
+                right.copy(alloc)?,
+                yes.copy(alloc)?,
+                no.copy(alloc)?,
+            )),
+        }
     }
 }

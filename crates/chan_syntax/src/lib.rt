@@ -5,13 +5,15 @@ mod certificates;
 mod copies;
 mod identifiers;
 mod linear;
+mod operand_copies;
 mod operands;
 mod resources;
 mod surface_tree;
 
-pub use copies::{copy_names, copy_spans, copy_terms};
+pub use copies::{copy_names, copy_params, copy_spans, copy_terms};
 pub use identifiers::{Ident, Idents, Span, Spans};
 pub use linear::{Bound, Limit, Limits, Part, Relation, Term, TermParts, Terms};
+pub use operand_copies::{copy_path, copy_supplies};
 pub use operands::{
     Certs, Letter, Pat, Path, Proof, Supplies, Supply, WrittenCert, WrittenMention, WrittenMentions,
 };

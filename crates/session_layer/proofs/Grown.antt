@@ -1,0 +1,150 @@
+-- Nodes that are added, and the bodies that stand on them.
+use Rattle.std.proofs.Common.{◌≡◌, ℕ, ◌+◌, ◌-◌, ◌<◌, ◌≤◌, List, [], ◌∷◌, ◌++◌, length, append-nil, append_assoc, Some, slice_get, get_or, drop, refl, sym, ap, ◌∙◌, subst, arith}
+use Rattle.std.proofs.lemmas.List.{at_drop_more}
+use denote.Hole.Carrier.{hidden}
+use mathlib.Core.Former.{this, list_count, list_put}
+use mathlib.Core.List.{map}
+use Rattle.chan_syntax.specs.declared.identifiers.Span.{Span}
+use Rattle.chan_syntax.specs.declared.linear.Term.{Term}
+use Rattle.chan_syntax.specs.declared.operands.Pat.{Pat}
+use Rattle.chan_syntax.specs.declared.surface_tree.Stmt.{Stmt, Let, Mul, Div, Rem, Call, Fork, ForkDo', Send1, Recv1, Send, Recv, Close, Wait, Choose, Split, Print, Row_of-Stmt, end_of-Stmt, more_of-Stmt}
+use Rattle.chan_syntax.specs.declared.surface_tree.Last.{Last, Ret, Tail, If', Match', Branch', Absurd, Loop', Again, Row_of-Last, end_of-Last, more_of-Last}
+use Rattle.chan_syntax.specs.declared.surface_tree.Last.TheVariants as l
+use Rattle.chan_syntax.specs.declared.surface_tree.Last.TheBlock.{hidden-the_row-Stmt-0, hidden-the_row-Last-1, back-the_row-Stmt}
+use Rattle.chan_syntax.specs.declared.surface_tree.Block.{Block}
+use Rattle.core_programs.specs.declared.nodes.Node.{Node}
+use Rattle.core_programs.specs.declared.nodes.Node.TheVariants as node
+use Rattle.core_programs.specs.Formed.{nexts}
+use Rattle.session_layer.specs.Lowering.{At, IsNodeOf, StmtsAt, RowAt, EndsAt, BoxedAt, IsBodyAt}
+use Rattle.session_layer.specs.Rooted.{IsRooted, Adds, AddsTwo}
+use Rattle.session_layer.proofs.Places.{place_below, at_left, at_end}
+use Rattle.session_layer.proofs.Roots.{grow}
+
+-- ---- roots
+
+pub nothing_added : (nodes : List Node) (last : ℕ) → Adds nodes nodes (last ∷ []) last
+nothing_added nodes last = record { more = []; longer = sym (append-nil nodes); rooted = λ front r. r }
+
+-- a node that names the root
+pub added_before : (before mid after : List Node) (old : List ℕ) (n : ℕ) (x : Node) → Adds before mid old n → after ≡ mid ++ x ∷ [] → nexts x ≡ n ∷ [] → Adds before after old (length mid)
+added_before before mid after old n x adds is names = record {
+  more = adds.more ++ x ∷ [];
+  longer = is ∙ ap (λ ns. ns ++ x ∷ []) adds.longer ∙ append_assoc before adds.more (x ∷ []);
+  rooted = λ front r. subst (λ ns. IsRooted ns (front ++ length mid ∷ [])) (sym is)
+      (grow mid front x (subst (λ ys. IsRooted mid (front ++ ys)) (sym names) (adds.rooted front r)));
+}
+
+-- a node that names none
+pub added_alone : (before after : List Node) (x : Node) → after ≡ before ++ x ∷ [] → nexts x ≡ [] → Adds before after [] (length before)
+added_alone before after x is names = record {
+  more = x ∷ [];
+  longer = is;
+  rooted = λ front r. subst (λ ns. IsRooted ns (front ++ length before ∷ [])) (sym is)
+      (grow before front x (subst (λ ys. IsRooted before (front ++ ys)) (sym names) r));
+}
+
+-- a node that names two roots
+pub added_above : (before mid after : List Node) (i j : ℕ) (x : Node) → AddsTwo before mid (i, j) → after ≡ mid ++ x ∷ [] → nexts x ≡ i ∷ j ∷ [] → Adds before after [] (length mid)
+added_above before mid after i j x adds is names = record {
+  more = adds.more ++ x ∷ [];
+  longer = is ∙ ap (λ ns. ns ++ x ∷ []) adds.longer ∙ append_assoc before adds.more (x ∷ []);
+  rooted = λ front r. subst (λ ns. IsRooted ns (front ++ length mid ∷ [])) (sym is)
+      (grow mid front x (subst (λ ys. IsRooted mid (front ++ ys)) (sym names) (adds.rooted front (subst (IsRooted before) (append-nil front) r))));
+}
+
+-- one body and then another
+pub added_both : (before mid after : List Node) (i j : ℕ) → Adds before mid [] i → Adds mid after [] j → AddsTwo before after (i, j)
+added_both before mid after i j a b = record {
+  more = a.more ++ b.more;
+  longer = b.longer ∙ ap (λ ns. ns ++ b.more) a.longer ∙ append_assoc before a.more b.more;
+  rooted = λ front r. subst (IsRooted after) (append_assoc front (i ∷ []) (j ∷ []))
+      (b.rooted (front ++ i ∷ []) (subst (IsRooted mid) (sym (append-nil (front ++ i ∷ []))) (a.rooted front (subst (IsRooted before) (sym (append-nil front)) r))));
+}
+
+-- statements before a last
+pub added_block : (before mid after : List Node) (last n : ℕ) → Adds before mid [] last → Adds mid after (last ∷ []) n → Adds before after [] n
+added_block before mid after last n a b = record {
+  more = a.more ++ b.more;
+  longer = b.longer ∙ ap (λ ns. ns ++ b.more) a.longer ∙ append_assoc before a.more b.more;
+  rooted = λ front r. b.rooted front (a.rooted front r);
+}
+
+-- ---- bodies
+
+kept_at : (nodes more : List Node) (n : ℕ) (x : Node) → At nodes n x → At (nodes ++ more) n x
+kept_at nodes more n x is = at_left nodes more n (place_below nodes n x is) ∙ is
+
+pub kept_stmts : (nodes more : List Node) (ss : List Stmt) (n m : ℕ) → StmtsAt nodes ss n m → StmtsAt (nodes ++ more) ss n m
+kept_stmts nodes more [] n m at = at
+kept_stmts nodes more (s ∷ ss) n m (x, next, is, of, rest) = (x, next, kept_at nodes more n x is, of, kept_stmts nodes more ss next m rest)
+
+kept_row : {k : _} (nodes more : List Node) (ss : Row_of-Stmt k) (n m : ℕ) → RowAt nodes ss n m → RowAt (nodes ++ more) ss n m
+kept_row nodes more end_of-Stmt n m at = at
+kept_row nodes more (more_of-Stmt s rest) n m (x, next, is, of, there) = (x, next, kept_at nodes more n x is, of, kept_row nodes more rest next m there)
+
+-- the node of a statement names what follows alone
+pub names_next : (s : Stmt) (next : ℕ) (x : Node) → IsNodeOf s next x → nexts x ≡ next ∷ []
+names_next (Let _ _ _ _) next x of = ap nexts of
+names_next (Mul _ _ _ _ _) next x of = ap nexts of
+names_next (Div _ _ _ _ _ _) next x of = ap nexts of
+names_next (Rem _ _ _ _ _ _) next x of = ap nexts of
+names_next (Call _ _ _ _ _ _) next x of = ap nexts of
+names_next (Fork _ _ _ _ _ _ _ _) next x of = ap nexts of
+names_next (ForkDo' _ _ _ _ _ _ _ _ _ _ _ _ _ _) next x of = absurd of
+names_next (Send1 _ _ _ _ _ _ _) next x of = ap nexts of
+names_next (Recv1 _ _ _ _ _ _ _) next x of = ap nexts of
+names_next (Send _ _ _ _ _ _ _ _ _ _) next x of = absurd of
+names_next (Recv _ _ _ _ _ _ _ _ _ _) next x of = absurd of
+names_next (Close _ _ _ _ _ _) next x of = absurd of
+names_next (Wait _ _ _ _ _ _) next x of = absurd of
+names_next (Choose _ _ _ _ _ _ _ _ _ _) next x of = absurd of
+names_next (Split _ _ _ _ _) next x of = ap nexts of
+names_next (Print _ _) next x of = ap nexts of
+
+-- a statement before those that were numbered
+pub stmts_before : (nodes after : List Node) (stmts : List Stmt) (left : ℕ) (s : Stmt) (x : Node) (next last : ℕ) → left < length stmts → s ≡ get_or stmts left s
+    → IsNodeOf s next x → after ≡ nodes ++ x ∷ [] → StmtsAt nodes (drop (left + 1) stmts) next last → StmtsAt after (drop left stmts) (length nodes) last
+stmts_before nodes after stmts left s x next last lt is of longer rest =
+    subst (λ ss. StmtsAt after ss (length nodes) last) (sym (at_drop_more (λ (ss : List Stmt). ss) stmts left s lt ∙ ap (λ y. y ∷ drop (left + 1) stmts) (sym is)))
+    (x, next, ap (λ ns. slice_get ns (length nodes)) longer ∙ at_end nodes x, of, subst (λ ns. StmtsAt ns (drop (left + 1) stmts) next last) (sym longer) (kept_stmts nodes (x ∷ []) (drop (left + 1) stmts) next last rest))
+
+mutual
+  unfolding EndsAt BoxedAt
+
+  pub kept_last : (nodes more : List Node) (x : Last) (n : ℕ) → EndsAt nodes x n → EndsAt (nodes ++ more) x n
+  kept_last nodes more (Ret v q span) n at = kept_at nodes more n (node.Ret v q span) at
+  kept_last nodes more (Tail f ft vs q span) n at = kept_at nodes more n (node.Tail f ft vs q span) at
+  kept_last nodes more (If' a b _ ss _ l _ ss' _ l' span) n (i, j, k, m, at, row, ends, row', ends') =
+      (i, j, k, m, kept_at nodes more n (node.If a b i j span) at, kept_row nodes more ss i k row, kept_boxed nodes more l k ends, kept_row nodes more ss' j m row', kept_boxed nodes more l' m ends')
+  kept_last nodes more (Match' x xt p _ ss _ l q _ ss' _ l' span) n (i, j, k, m, at, row, ends, row', ends') =
+      (i, j, k, m, kept_at nodes more n (node.Match x xt p i q j span) at, kept_row nodes more ss i k row, kept_boxed nodes more l k ends, kept_row nodes more ss' j m row', kept_boxed nodes more l' m ends')
+  kept_last nodes more (Branch' _ _ _ _ _ _ _ _ _ _ _ _ _ _ _ _ _ _) n at = absurd at
+  kept_last nodes more (Absurd q span) n at = kept_at nodes more n (node.Absurd q span) at
+  kept_last nodes more (Loop' _ _ _ _ _ _ _ _ _ _ _) n at = absurd at
+  kept_last nodes more (Again _ _ _) n at = absurd at
+
+  kept_boxed : {k : _} (nodes more : List Node) (x : Row_of-Last k) (n : ℕ) → BoxedAt nodes x n → BoxedAt (nodes ++ more) x n
+  kept_boxed nodes more end_of-Last n at = absurd at
+  kept_boxed nodes more (more_of-Last x rest) n at = kept_last nodes more x n at
+
+pub kept_body : (nodes after more : List Node) (b : Block) (n : ℕ) → after ≡ nodes ++ more → IsBodyAt nodes b n → IsBodyAt after b n
+kept_body nodes after more b n longer (m, stmts, ends) =
+    subst (λ ns. IsBodyAt ns b n) (sym longer) (m, kept_stmts nodes more b.stmts n m stmts, kept_last nodes more b.last m ends)
+
+-- ---- lasts that hold blocks
+
+row_at : (nodes : List Node) (xs : List Stmt) (n m : ℕ) → StmtsAt nodes xs n m → RowAt nodes (back-the_row-Stmt (list_count (this {0}) (map ((this {0}).shape Stmt) xs) 0) (list_put (this {0}) Stmt xs 0 (tt {0}))) n m
+row_at nodes [] n m at = at
+row_at nodes (s ∷ ss) n m (x, next, is, of, rest) = (x, next, is, of, row_at nodes ss next m rest)
+
+pub ends_if : (nodes : List Node) (a b : Term) (this_block other : Block) (span : Span) (n i j : ℕ) → At nodes n (node.If a b i j span) → IsBodyAt nodes this_block i → IsBodyAt nodes other j
+    → EndsAt nodes (l.If a b this_block other span) n
+unfolding hidden hidden-the_row-Stmt-0 hidden-the_row-Last-1 EndsAt BoxedAt
+ends_if nodes a b this_block other span n i j at (k, stmts, ends) (m, stmts', ends') =
+    (i, j, k, m, at, row_at nodes this_block.stmts i k stmts, ends, row_at nodes other.stmts j m stmts', ends')
+
+pub ends_match : (nodes : List Node) (x : List ℕ) (xt : Span) (p : Pat) (this_block : Block) (q : Pat) (other : Block) (span : Span) (n i j : ℕ) → At nodes n (node.Match x xt p i q j span)
+    → IsBodyAt nodes this_block i → IsBodyAt nodes other j → EndsAt nodes (l.Match x xt p this_block q other span) n
+unfolding hidden hidden-the_row-Stmt-0 hidden-the_row-Last-1 EndsAt BoxedAt
+ends_match nodes x xt p this_block q other span n i j at (k, stmts, ends) (m, stmts', ends') =
+    (i, j, k, m, at, row_at nodes this_block.stmts i k stmts, ends, row_at nodes other.stmts j m stmts', ends')

@@ -1,0 +1,8 @@
+//! From the tree of a text to its core program.
+#![tactic(auto)]
+
+mod cores;
+mod numbering;
+mod statements;
+
+pub use cores::is_core;
