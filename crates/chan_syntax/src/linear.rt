@@ -1,4 +1,8 @@
 //! Linear terms, and limits between them.
+ghost use Rattle.std.specs.Prelude.{◌≡◌, ◌≤◌, ◌^◌, unsigned_abs};
+ghost use Rattle.linear_forms.specs.Terms.{times_of};
+ghost use Rattle.chan_syntax.specs.Reading.{part_of};
+
 use crate::identifiers::{Ident, Idents, Span, Spans};
 use sqlite_items::Items;
 
@@ -16,6 +20,17 @@ pub struct Part {
     pub factor: i64,
     pub name: Option<Ident>,
     pub name_span: Option<Span>,
+}
+
+impl Part {
+    /// How often the part counts its name, or 1 where it has none.
+    pub fn times(&self) -> i128
+        ensures value { result ≡ times_of (part_of self.now) }
+        ensures bound { unsigned_abs result ≤ 2 ^ 63 }
+    {
+        let factor = i128::from(self.factor);
+        if self.negative { -factor } else { factor }
+    }
 }
 
 #[derive(Debug, Drop)]

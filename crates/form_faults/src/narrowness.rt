@@ -19,14 +19,6 @@ struct Sums {
     constant: i128,
 }
 
-fn times(part: &Part) -> i128
-    ensures value { result ≡ times_of (part_of part.now) }
-    ensures bound { unsigned_abs result ≤ 2 ^ 63 }
-{
-    let factor = i128::from(part.factor);
-    if part.negative { -factor } else { factor }
-}
-
 fn fits(sum: i128) -> bool
     ensures { result ≡ normal.fits sum }
 {
@@ -77,7 +69,7 @@ fn add_constant(sums: &mut Sums, part: &Part)
     ensures constant { sums.new.constant ≡ sums.old.constant +ℤ times_of (part_of part.now) }
     ensures bound { unsigned_abs (times_of (part_of part.now)) ≤ 2 ^ 63 }
 {
-    sums.constant += times(part);
+    sums.constant += part.times();
 }
 
 fn added(sums: &Sums, name: &Ident, part: &Part) -> i128
@@ -85,7 +77,7 @@ fn added(sums: &Sums, name: &Ident, part: &Part) -> i128
     ensures value { result ≡ count_in sums.now name.now +ℤ times_of (part_of part.now) }
     ensures bound { unsigned_abs (times_of (part_of part.now)) ≤ 2 ^ 63 }
 {
-    count(sums, name) + times(part)
+    count(sums, name) + part.times()
 }
 
 fn add(alloc: Global, sums: &mut Sums, part: &Part) -> Result<(), Memory>

@@ -19,15 +19,6 @@ pub(crate) struct Sums {
     pub constant: Wide,
 }
 
-/// How often a part counts.
-fn times(part: &Part) -> i128
-    ensures value { result ≡ times_of (part_of part.now) }
-    ensures bound { unsigned_abs result ≤ 2 ^ 63 }
-{
-    let factor = i128::from(part.factor);
-    if part.negative { -factor } else { factor }
-}
-
 /// Adds a part some times, which names an integer variable or nothing.
 fn add_part(ints: &[Ident], sums: &mut Sums, weight: i128, part: &Part)
     requires weight { unsigned_abs weight ≤ 2 ^ 63 }
@@ -36,10 +27,10 @@ fn add_part(ints: &[Ident], sums: &mut Sums, weight: i128, part: &Part)
     ensures within { (size : ℕ) → IsWithin (length ints.now) size sums.old → IsWithin (length ints.now) (size + 2 ^ 126) sums.new }
 {
     match &part.name {
-        None => sums.constant.add_product(weight, times(part)),
+        None => sums.constant.add_product(weight, part.times()),
         Some(name) => {
             if let Some(place) = place_of(ints, name) {
-                sums.coefficients[place].add_product(weight, times(part));
+                sums.coefficients[place].add_product(weight, part.times());
             }
         }
     }
@@ -68,7 +59,7 @@ fn add_meaning(names: &IntNames, sums: &mut Sums, part: &Part)
         None => add_part(ints, sums, 1, part),
         Some(name) => match var_named(names.vars.as_slice(), name) {
             None => add_part(ints, sums, 1, part),
-            Some(var) => add_term(ints, sums, times(part), var.term.parts.as_slice()),
+            Some(var) => add_term(ints, sums, part.times(), var.term.parts.as_slice()),
         },
     }
 }

@@ -13,15 +13,6 @@ use chan_base::Memory;
 use chan_syntax::{Ident, Part};
 use std::alloc::Global;
 
-/// How often a part counts.
-fn times(part: &Part) -> i128
-    ensures value { result ≡ times_of (part_of part.now) }
-    ensures bound { unsigned_abs result ≤ 2 ^ 63 }
-{
-    let factor = i128::from(part.factor);
-    if part.negative { -factor } else { factor }
-}
-
 /// Adds a part some times.
 fn add_part(alloc: Global, sums: &mut Summands, weight: i128, part: &Part) -> Result<(), Memory>
     requires weight { unsigned_abs weight ≤ 2 ^ 63 }
@@ -30,9 +21,9 @@ fn add_part(alloc: Global, sums: &mut Summands, weight: i128, part: &Part) -> Re
     ensures within { OnOk result ((size : ℕ) → IsWithin size sums.old → IsWithin (size + 2 ^ 126) sums.new) }
 {
     match &part.name {
-        Some(name) => sums.add_name(alloc, name, part.name_span, weight, times(part)),
+        Some(name) => sums.add_name(alloc, name, part.name_span, weight, part.times()),
         None => {
-            sums.add_number(weight, times(part));
+            sums.add_number(weight, part.times());
             Ok(())
         }
     }
@@ -57,7 +48,7 @@ fn add_once(alloc: Global, sums: &mut Summands, part: &Part, name: &Ident) -> Re
     ensures sums { OnOk result ((sum : Sum) → HasSums sums.old sum → HasSums sums.new (sum ++ counting (times_of (part_of part.now)) (Some name.now) ∷ [])) }
     ensures within { OnOk result ((size : ℕ) → IsWithin size sums.old → IsWithin (size + 2 ^ 185) sums.new) }
 {
-    sums.add_name(alloc, name, part.name_span, 1, times(part))?;
+    sums.add_name(alloc, name, part.name_span, 1, part.times())?;
     Ok(())
 }
 
@@ -77,7 +68,7 @@ fn add_named(
     match new_name(scope, name) {
         Some(made) => add_once(alloc, sums, part, made),
         None => match put_named(put, name) {
-            Some(put) => add_term(alloc, sums, times(part), put.term.parts.as_slice()),
+            Some(put) => add_term(alloc, sums, part.times(), put.term.parts.as_slice()),
             None => add_once(alloc, sums, part, name),
         },
     }
@@ -97,7 +88,7 @@ fn add_replaced(
     match &part.name {
         Some(name) => add_named(alloc, scope, put, sums, part, name),
         None => {
-            sums.add_number(1, times(part));
+            sums.add_number(1, part.times());
             Ok(())
         }
     }
