@@ -51,13 +51,10 @@ pub record IsNumbered (parts : Parts) : Type 0 where
 
 -- ---- numbers in nodes
 
-abbrev pub IsDivisor : ℕ → Type 0
-IsDivisor n = (0 < n) × (n < 2 ^ 63)
-
--- where the node divides, its divisor is positive and within 64 bits
+-- where the node divides, its divisor is positive
 abbrev pub HasDivisor : Node → Type 0
-HasDivisor (node.Div name name_at term divisor divisor_at next span) = IsDivisor divisor
-HasDivisor (node.Rem name name_at term divisor divisor_at next span) = IsDivisor divisor
+HasDivisor (node.Div name name_at term divisor divisor_at next span) = 0 < divisor
+HasDivisor (node.Rem name name_at term divisor divisor_at next span) = 0 < divisor
 HasDivisor other = Unit {0}
 
 pub record IsFormed (parts : Parts) : Type 0 where

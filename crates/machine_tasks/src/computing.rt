@@ -1,8 +1,7 @@
 //! What computing the operands of a form comes to.
-ghost use Rattle.std.specs.Prelude.{◌≡◌, ◌+ℤ◌, ◌-ℤ◌, ◌*ℤ◌};
+ghost use Rattle.std.specs.Prelude.{◌≡◌, ◌<◌, ◌+ℤ◌, ◌-ℤ◌, ◌*ℤ◌};
 ghost use Rattle.std.specs.Option.{option_map};
 ghost use Rattle.core_language.specs.Computing.{machine, value_of, as_int, checked, joined, product as product_of, sum_of, multiplied, divided, left_over};
-ghost use Rattle.core_programs.specs.Formed.{IsDivisor};
 ghost use Rattle.chan_syntax.specs.Reading.{term_of};
 ghost use Rattle.machine_tasks.specs.Reading.{env_of, value_as};
 ghost use Rattle.machine_tasks.specs.Troubles.{computed_of};
@@ -47,6 +46,15 @@ fn multiply(left: i64, right: i64) -> Result<i64, Trouble>
     match left.checked_mul(right) {
         Some(product) => Ok(product),
         None => Err(OUT_OF_RANGE),
+    }
+}
+
+fn narrow(wide: i128) -> Result<i64, Trouble>
+    ensures { computed_of result ≡ checked machine wide }
+{
+    match i64::try_from(wide) {
+        Ok(number) => Ok(number),
+        Err(_) => Err(OUT_OF_RANGE),
     }
 }
 
@@ -115,22 +123,18 @@ pub(crate) fn product_of_sums(binds: &[Bind], left: &Term, right: &Term) -> Resu
 
 /// The quotient, rounded down.
 pub(crate) fn quotient(binds: &[Bind], term: &Term, divisor: u64) -> Result<i64, Trouble>
-    requires { IsDivisor divisor }
+    requires { 0 < divisor }
     ensures { computed_of result ≡ divided machine (env_of binds.now) (term_of term.now) divisor }
 {
-    match sum(binds, term) {
-        Ok(number) => Ok(number.div_euclid(divisor as i64)),
-        Err(trouble) => Err(trouble),
-    }
+    let number = sum(binds, term)?;
+    narrow(i128::from(number).div_euclid(i128::from(divisor)))
 }
 
 /// What the division leaves over.
 pub(crate) fn remainder(binds: &[Bind], term: &Term, divisor: u64) -> Result<i64, Trouble>
-    requires { IsDivisor divisor }
+    requires { 0 < divisor }
     ensures { computed_of result ≡ left_over machine (env_of binds.now) (term_of term.now) divisor }
 {
-    match sum(binds, term) {
-        Ok(number) => Ok(number.rem_euclid(divisor as i64)),
-        Err(trouble) => Err(trouble),
-    }
+    let number = sum(binds, term)?;
+    narrow(i128::from(number).rem_euclid(i128::from(divisor)))
 }
