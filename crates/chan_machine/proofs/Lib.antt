@@ -6,3 +6,4 @@ pub mod Parked
 pub mod Sifted
 pub mod Turned
 pub mod Begun
+pub mod Listed

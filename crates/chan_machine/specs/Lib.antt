@@ -3,3 +3,4 @@ pub mod Fits
 pub mod Looking
 pub mod Parking
 pub mod Turning
+pub mod Faulting

@@ -2,10 +2,13 @@
 #![tactic(auto)]
 
 mod configurations;
+mod endings;
 mod events;
 mod exchanging;
+mod listing;
 mod looking;
 mod moving;
+mod replaying;
 mod rounds;
 mod running;
 mod runs;
@@ -20,5 +23,6 @@ pub use looking::look;
 pub use machine_tasks::{
     Act, Bind, Binds, Channel, Frame, Frames, Halt, Sending, StuckWhy, Task, Tasks, Twins, Value,
 };
+pub use replaying::{Replayed, replay};
 pub use running::step;
 pub use stepping::start;

@@ -1,14 +1,11 @@
 -- What becomes of a place when a frame below the top one is written, and when frames come and go.
-use Rattle.std.proofs.Common.{◌≡◌, ℕ, suc, ◌+◌, ◌-◌, ◌<◌, ◌≤◌, List, [], ◌∷◌, ◌++◌, map, reverse, set, get_or, length, Option, Some, None, IfSome, IsSome, slice_get, refl, sym, ap, subst, ◌∙◌, arith, append_assoc}
+use Rattle.std.proofs.Common.{◌≡◌, ℕ, suc, ◌+◌, ◌-◌, ◌<◌, ◌≤◌, List, [], ◌∷◌, ◌++◌, map, reverse, set, get_or, length, Option, Some, None, IfSome, IsSome, refl, sym, ap, subst, ◌∙◌, arith, append_assoc}
 use Rattle.std.specs.List.{AllByRecursion}
 use Rattle.std.specs.Option.{option_to_list}
 use Rattle.std.proofs.lemmas.List.{reverse-append, map-append, length-append}
-use Rattle.core_language.specs.Names.{Ident}
-use Rattle.core_language.specs.Values.{Value}
 use Rattle.core_language.specs.Computing.{Env}
-use Rattle.core_language.specs.Programs.{Body}
 use Rattle.core_language.specs.Configurations.{Place, Running, Caller, kept}
-use Rattle.core_language.specs.Acts.{at, bound, returned}
+use Rattle.core_language.specs.Acts.{at, returned}
 use Rattle.core_programs.specs.declared.nodes.Node.{Node}
 use Rattle.core_programs.specs.Bodies.{rest}
 use Rattle.machine_tasks.specs.declared.tasks.Bind.{Bind}

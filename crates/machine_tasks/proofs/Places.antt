@@ -3,11 +3,10 @@ use Rattle.std.proofs.Common.{◌≡◌, ℕ, suc, ◌+◌, ◌-◌, ◌<◌, �
 use Rattle.std.specs.Prelude.{vec_len, vec_capacity}
 use Rattle.std.specs.List.{AllByRecursion}
 use Rattle.std.proofs.lemmas.List.{reverse-append, map-append}
-use Rattle.core_language.specs.Names.{Name, Ident}
-use Rattle.core_language.specs.Values.{Value}
+use Rattle.core_language.specs.Names.{Name}
 use Rattle.core_language.specs.Computing.{Env, machine}
 use Rattle.core_language.specs.Programs.{Body, Program}
-use Rattle.core_language.specs.Configurations.{Place, Running, Caller, kept}
+use Rattle.core_language.specs.Configurations.{Place, Running, kept}
 use Rattle.core_language.specs.Acts.{Act, act_of, act_at}
 use Rattle.core_programs.specs.declared.nodes.Node.{Node}
 use Rattle.core_programs.specs.declared.nodes.Parts.{Parts}

@@ -3,7 +3,7 @@ use Rattle.std.specs.Prelude.{ℕ, ◌+◌, ◌≤◌, Bool, if◌then◌else◌
 use Rattle.core_language.specs.Names.{Ident}
 use Rattle.core_language.specs.Values.{Value}
 use Rattle.core_language.specs.Values as value
-use Rattle.core_language.specs.Configurations.{Place, Running, Ended, Caller, kept}
+use Rattle.core_language.specs.Configurations.{Place, Running, Ended, Caller}
 use Rattle.core_language.specs.Acts.{Act, at, bound, returned}
 use Rattle.core_language.specs.Acts as act
 use Rattle.core_programs.specs.declared.nodes.Node.{Node}

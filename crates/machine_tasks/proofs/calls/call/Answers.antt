@@ -1,4 +1,4 @@
-use Rattle.std.proofs.Common.{slice_get, length, rules, sym, subst, ap, ◌∙◌}
+use Rattle.std.proofs.Common.{slice_get, sym, subst, ap, ◌∙◌}
 use Rattle.core_programs.specs.Formed.{nexts}
 use Rattle.core_programs.specs.Bodies.{opened, rest}
 use Rattle.machine_tasks.specs.Fits.{IsCall}

@@ -1,9 +1,8 @@
-use Rattle.std.proofs.Common.{◌≡◌, ◌<◌, ◌+◌, arith, length, slice_get, rules, refl, sym, ap, subst, ◌∙◌}
+use Rattle.std.proofs.Common.{◌≡◌, ◌<◌, arith, length, slice_get, rules, refl, sym, ap, subst, ◌∙◌}
 use Rattle.std.specs.Prelude.{vec_len}
 use Rattle.core_programs.specs.Formed.{nexts}
 use Rattle.core_programs.specs.Bodies.{opened, rest}
 use Rattle.core_language.specs.Names.{Ident}
-use Rattle.core_language.specs.Programs.{Body}
 use Rattle.core_language.specs.Configurations.{Caller}
 use Rattle.machine_tasks.specs.declared.tasks.Bind.{Bind}
 use Rattle.machine_tasks.specs.declared.tasks.Frame.{Frame}

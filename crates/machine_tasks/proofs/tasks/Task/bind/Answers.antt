@@ -1,7 +1,7 @@
-use Rattle.std.proofs.Common.{◌≡◌, ◌+◌, ◌<◌, ◌++◌, ◌∷◌, [], rules, arith, refl}
-use Rattle.std.specs.Prelude.{vec_len, vec_capacity}
+use Rattle.std.proofs.Common.{◌≡◌, ◌+◌, rules, arith, refl}
+use Rattle.std.specs.Prelude.{vec_len}
 use Rattle.machine_tasks.specs.declared.tasks.Frame.{Frame}
-use Rattle.machine_tasks.proofs.Places.{Written, written, gains, still_fits, gets_room, room_in, pushed}
+use Rattle.machine_tasks.proofs.Places.{written, gains, still_fits, gets_room, room_in, pushed}
 use Rattle.machine_tasks.proofs.tasks.Task.bind.Goals as goal
 
 pub returns-in-Some-clause-place : goal.returns-in-Some-clause-place

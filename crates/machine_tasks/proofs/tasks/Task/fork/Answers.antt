@@ -1,6 +1,5 @@
-use Rattle.std.proofs.Common.{◌≡◌, ℕ, suc, refl, sym, ap, ◌∙◌}
-use Rattle.core_language.specs.Names.{Name, child}
-use Rattle.core_language.specs.Configurations.{Place}
+use Rattle.std.proofs.Common.{◌≡◌, suc, refl, sym, ap, ◌∙◌}
+use Rattle.core_language.specs.Names.{child}
 use Rattle.core_language.specs.Acts.{Act}
 use Rattle.core_language.specs.Acts as act
 use Rattle.machine_tasks.specs.Reading.{place_of}

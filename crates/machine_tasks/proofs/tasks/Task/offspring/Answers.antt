@@ -1,6 +1,6 @@
-use Rattle.std.proofs.Common.{◌≡◌, ◌<◌, List, [], ◌∷◌, slice_get, length, nat_lt, true, if◌then◌else◌, map, reverse, Some, refl, sym, ap, ◌∙◌, arith}
+use Rattle.std.proofs.Common.{◌≡◌, ◌<◌, List, [], ◌∷◌, slice_get, length, nat_lt, true, if◌then◌else◌, map, reverse, refl, sym, ap, ◌∙◌, arith}
 use Rattle.std.proofs.lemmas.Bool.Decides.{nat_tests}
-use Rattle.core_language.specs.Names.{Name, Ident, child}
+use Rattle.core_language.specs.Names.{Name, child}
 use Rattle.core_language.specs.Values.{Value}
 use Rattle.core_language.specs.Values as core
 use Rattle.core_language.specs.Programs.{function_named}

@@ -1,7 +1,7 @@
-use Rattle.std.proofs.Common.{◌≡◌, List, Result, slice_get, map, reverse, Some, sym, ap, ◌∙◌}
+use Rattle.std.proofs.Common.{◌≡◌, List, slice_get, map, reverse, Some, sym, ap, ◌∙◌}
 use Rattle.core_language.specs.Values as core
-use Rattle.core_language.specs.Computing.{Computed, Done, machine, value_of, supplied}
-use Rattle.core_language.specs.Configurations.{Place, Running}
+use Rattle.core_language.specs.Computing.{Done, machine, value_of, supplied}
+use Rattle.core_language.specs.Configurations.{Place}
 use Rattle.core_language.specs.Acts.{Act, act_at, at, on_end, with_result}
 use Rattle.core_language.specs.Acts as act
 use Rattle.chan_syntax.specs.Reading.{supply_of}

@@ -1,5 +1,4 @@
-use Rattle.std.proofs.Common.{◌≡◌, rules, refl, sym, ap, ◌∙◌}
-use Rattle.core_language.specs.Acts as act
+use Rattle.std.proofs.Common.{sym, ◌∙◌}
 use Rattle.machine_tasks.specs.Sharing.{place_with}
 use Rattle.machine_tasks.specs.Reading.{place_of}
 use Rattle.machine_tasks.proofs.Places.{act_same}
