@@ -1,5 +1,5 @@
 -- Nodes that are added, and the bodies that stand on them.
-use Rattle.std.proofs.Common.{◌≡◌, ℕ, ◌+◌, ◌-◌, ◌<◌, ◌≤◌, List, [], ◌∷◌, ◌++◌, length, append-nil, append_assoc, Some, slice_get, get_or, drop, refl, sym, ap, ◌∙◌, subst, arith}
+use Rattle.std.proofs.Common.{◌≡◌, ℕ, ◌+◌, ◌-◌, ◌<◌, ◌≤◌, ◌^◌, List, [], ◌∷◌, ◌++◌, length, append-nil, append_assoc, Some, slice_get, get_or, drop, refl, sym, ap, ◌∙◌, subst, arith}
 use Rattle.std.proofs.lemmas.List.{at_drop_more}
 use denote.Hole.Carrier.{hidden}
 use mathlib.Core.Former.{this, list_count, list_put}
@@ -28,30 +28,30 @@ pub nothing_added : (nodes : List Node) (last : ℕ) → Adds nodes nodes (last 
 nothing_added nodes last = record { more = []; longer = sym (append-nil nodes); rooted = λ front r. r }
 
 -- a node that names the root
-pub added_before : (before mid after : List Node) (old : List ℕ) (n : ℕ) (x : Node) → Adds before mid old n → after ≡ mid ++ x ∷ [] → nexts x ≡ n ∷ [] → Adds before after old (length mid)
-added_before before mid after old n x adds is names = record {
+pub added_before : (before mid after : List Node) (old : List ℕ) (n : ℕ) (x : Node) → Adds before mid old n → after ≡ mid ++ x ∷ [] → length after < 2 ^ 32 → nexts x ≡ n ∷ [] → Adds before after old (length mid)
+added_before before mid after old n x adds is few names = record {
   more = adds.more ++ x ∷ [];
   longer = is ∙ ap (λ ns. ns ++ x ∷ []) adds.longer ∙ append_assoc before adds.more (x ∷ []);
   rooted = λ front r. subst (λ ns. IsRooted ns (front ++ length mid ∷ [])) (sym is)
-      (grow mid front x (subst (λ ys. IsRooted mid (front ++ ys)) (sym names) (adds.rooted front r)));
+      (grow mid front x (subst (λ ys. IsRooted mid (front ++ ys)) (sym names) (adds.rooted front r)) (subst (λ ns. length ns < 2 ^ 32) is few));
 }
 
 -- a node that names none
-pub added_alone : (before after : List Node) (x : Node) (n : ℕ) → n ≡ length before → after ≡ before ++ x ∷ [] → nexts x ≡ [] → Adds before after [] n
-added_alone before after x n at is names = record {
+pub added_alone : (before after : List Node) (x : Node) (n : ℕ) → n ≡ length before → after ≡ before ++ x ∷ [] → length after < 2 ^ 32 → nexts x ≡ [] → Adds before after [] n
+added_alone before after x n at is few names = record {
   more = x ∷ [];
   longer = is;
   rooted = λ front r. subst (λ k. IsRooted after (front ++ k ∷ [])) (sym at) (subst (λ ns. IsRooted ns (front ++ length before ∷ [])) (sym is)
-      (grow before front x (subst (λ ys. IsRooted before (front ++ ys)) (sym names) r)));
+      (grow before front x (subst (λ ys. IsRooted before (front ++ ys)) (sym names) r) (subst (λ ns. length ns < 2 ^ 32) is few)));
 }
 
 -- a node that names two roots
-pub joins : (mid after : List Node) (p : ℕ × ℕ) (x : Node) (n : ℕ) → n ≡ length mid → after ≡ mid ++ x ∷ [] → nexts x ≡ p.0 ∷ p.1 ∷ [] → Joins mid after p n
-joins mid after p x n at is names before adds = record {
+pub joins : (mid after : List Node) (p : ℕ × ℕ) (x : Node) (n : ℕ) → n ≡ length mid → after ≡ mid ++ x ∷ [] → length after < 2 ^ 32 → nexts x ≡ p.0 ∷ p.1 ∷ [] → Joins mid after p n
+joins mid after p x n at is few names before adds = record {
   more = adds.more ++ x ∷ [];
   longer = is ∙ ap (λ ns. ns ++ x ∷ []) adds.longer ∙ append_assoc before adds.more (x ∷ []);
   rooted = λ front r. subst (λ k. IsRooted after (front ++ k ∷ [])) (sym at) (subst (λ ns. IsRooted ns (front ++ length mid ∷ [])) (sym is)
-      (grow mid front x (subst (λ ys. IsRooted mid (front ++ ys)) (sym names) (adds.rooted front (subst (IsRooted before) (append-nil front) r)))));
+      (grow mid front x (subst (λ ys. IsRooted mid (front ++ ys)) (sym names) (adds.rooted front (subst (IsRooted before) (append-nil front) r))) (subst (λ ns. length ns < 2 ^ 32) is few)));
 }
 
 -- one body and then another

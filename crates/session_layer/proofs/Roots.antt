@@ -148,11 +148,12 @@ module _ (nodes : List Node) (front : List ℕ) (x : Node) (rooted : IsRooted no
       (cases_lt n (length nodes))
 
   -- the node stands above the roots that it names
-  pub grow : IsRooted (nodes ++ x ∷ []) (front ++ length nodes ∷ [])
-  grow = record { within = within_more; falls = falls_more; once = once_more }
+  pub grow : length (nodes ++ x ∷ []) < 2 ^ 32 → IsRooted (nodes ++ x ∷ []) (front ++ length nodes ∷ [])
+  grow few = record { few = few; within = within_more; falls = falls_more; once = once_more }
 
 pub nothing_rooted : IsRooted [] []
 nothing_rooted = record {
+  few = omega arith;
   within = λ i root is. cc;
   falls = λ n x is. cc;
   once = λ n lt. absurd (omega (arith, lt));
@@ -160,9 +161,9 @@ nothing_rooted = record {
 
 -- ---- whole parts
 
-pub numbered : (parts : Parts) → length parts.nodes < 2 ^ 32 → IsRooted parts.nodes (map (λ f. f.first) parts.funcs) → IsNumbered parts
-numbered parts few rooted = record {
-  few = few;
+pub numbered : (parts : Parts) → IsRooted parts.nodes (map (λ f. f.first) parts.funcs) → IsNumbered parts
+numbered parts rooted = record {
+  few = rooted.few;
   firsts = λ f func is. rooted.within f func.first (map_at (λ (g : Func). g.first) parts.funcs f func is);
   follow = λ n x is k m at.
       let lt = rooted.falls n x is k m at in

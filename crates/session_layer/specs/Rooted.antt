@@ -1,5 +1,5 @@
 -- For the proof alone: numbers of nodes that are reached in one way while nodes are added.
-use Rattle.std.specs.Prelude.{◌≡◌, ℕ, ◌<◌, List, [], ◌∷◌, ◌++◌, length, Some, slice_get}
+use Rattle.std.specs.Prelude.{◌≡◌, ℕ, ◌<◌, ◌^◌, List, [], ◌∷◌, ◌++◌, length, Some, slice_get}
 use Rattle.core_programs.specs.declared.nodes.Node.{Node}
 use Rattle.chan_syntax.specs.declared.surface_tree.Last.{Last}
 use Rattle.chan_syntax.specs.declared.surface_tree.Block.{Block}
@@ -21,6 +21,7 @@ Falls nodes = (n : ℕ) (x : Node) → slice_get nodes n ≡ Some x → LeadBelo
 
 -- Each root is the number of a node, each node names smaller numbers alone, and each number is reached in one way.
 pub record IsRooted (nodes : List Node) (roots : List ℕ) : Type 0 where
+  pub few : length nodes < 2 ^ 32
   pub within : (i root : ℕ) → slice_get roots i ≡ Some root → root < length nodes
   pub falls : Falls nodes
   pub once : (n : ℕ) → n < length nodes → IsClimbedOnce nodes roots n

@@ -9,19 +9,19 @@ use crate::adding::{add, add_absurd, add_if, add_match, add_ret, add_tail};
 use crate::statements::stmt_node;
 use chan_base::Memory;
 use chan_syntax::{Block, Last, Stmt};
-use core_programs::Node;
+use core_programs::Nodes;
 use std::alloc::Global;
 
 /// Adds the nodes of statements before the body at this number.
 fn number_stmts(
     alloc: Global,
-    nodes: &mut Vec<Node>,
+    nodes: &mut Nodes,
     stmts: &[Stmt],
     last: u32,
 ) -> Result<u32, Memory>
     requires core { list_all is_core_stmt stmts.now ≡ true }
-    ensures adds { IfOk result (Adds nodes.old.items nodes.new.items (last ∷ [])) }
-    ensures body { IfOk result (λ n. StmtsAt nodes.new.items stmts.now n last) }
+    ensures adds { IfOk result (Adds nodes.old nodes.new (last ∷ [])) }
+    ensures body { IfOk result (λ n. StmtsAt nodes.new stmts.now n last) }
 {
     let mut next = last;
     let mut left = stmts.len();
@@ -36,10 +36,10 @@ fn number_stmts(
 /// Adds the nodes of what ends a block.
 #[cycle(numbering)]
 #[tactic(auto, using(crate::proofs::CoreBlocks::core_rules, std::proofs::lemmas::Grind::common_steps))]
-fn number_last(alloc: Global, nodes: &mut Vec<Node>, last: &Last) -> Result<u32, Memory>
+fn number_last(alloc: Global, nodes: &mut Nodes, last: &Last) -> Result<u32, Memory>
     requires core { is_core_last last.now ≡ true }
-    ensures adds { IfOk result (Adds nodes.old.items nodes.new.items []) }
-    ensures body { IfOk result (EndsAt nodes.new.items last.now) }
+    ensures adds { IfOk result (Adds nodes.old nodes.new []) }
+    ensures body { IfOk result (EndsAt nodes.new last.now) }
 {
     match last {
         Last::Ret { value, proof, span } => {
@@ -95,10 +95,10 @@ fn number_last(alloc: Global, nodes: &mut Vec<Node>, last: &Last) -> Result<u32,
 
 /// Adds the nodes of a block, and gives the number of its first one.
 #[cycle(numbering)]
-fn number_block(alloc: Global, nodes: &mut Vec<Node>, block: &Block) -> Result<u32, Memory>
+fn number_block(alloc: Global, nodes: &mut Nodes, block: &Block) -> Result<u32, Memory>
     requires core { is_core_block block.now ≡ true }
-    ensures adds { IfOk result (Adds nodes.old.items nodes.new.items []) }
-    ensures body { IfOk result (IsBodyAt nodes.new.items block.now) }
+    ensures adds { IfOk result (Adds nodes.old nodes.new []) }
+    ensures body { IfOk result (IsBodyAt nodes.new block.now) }
 {
     let last = number_last(alloc, nodes, block.last.get())?;
     let first = number_stmts(alloc, nodes, block.stmts.as_slice(), last)?;
