@@ -1,6 +1,7 @@
 //! From the tree of a text to its core program.
 #![tactic(auto)]
 
+mod adding;
 mod cores;
 mod numbering;
 mod statements;
