@@ -4,7 +4,10 @@ use Rattle.std.specs.List.{flat_map}
 use Rattle.std.specs.Fmt.{decimal, signed_decimal}
 use Rattle.chan_base.specs.Names.{name_text}
 use Rattle.chan_syntax.specs.declared.identifiers.Span.{Span}
-use Rattle.core_language.specs.Names.{Name}
+use Rattle.core_language.specs.Names.{Name, Ident}
+use Rattle.form_faults.specs.declared.faults.Ill.{Ill}
+use Rattle.form_faults.specs.declared.faults.IllKind.{IllKind}
+use Rattle.form_faults.specs.declared.faults.IllKind.TheVariants as kind
 use Rattle.core_language.specs.Computing.{StuckWhy}
 use Rattle.core_language.specs.Computing as why
 use Rattle.core_language.specs.Rounds.{Entry, printed, prints_of}
@@ -30,6 +33,28 @@ place_text span = decimal span.line ++ 58 ∷ decimal span.column
 -- refused for what stands at a place
 abbrev pub refused_at : Span → List ℕ → List ℕ
 refused_at span why = refused (place_text span ++ 32 ∷ why)
+
+-- a space and the name
+abbrev pub after_blank : Ident → List ℕ
+after_blank name = 32 ∷ name
+
+abbrev pub idents_text : List Ident → List ℕ
+idents_text names = flat_map after_blank names
+
+abbrev pub kind_text : IllKind → List ℕ
+kind_text kind.UnknownName = codes "unknown name"
+kind_text kind.Twice = codes "twice"
+kind_text kind.Arity = codes "arity"
+kind_text kind.NoMain = codes "no main"
+kind_text kind.Unscoped = codes "unscoped"
+kind_text kind.Unguarded = codes "unguarded"
+kind_text kind.TooMany = codes "too many"
+kind_text kind.BadNumber = codes "bad number"
+kind_text kind.WrongSession = codes "wrong session"
+
+-- refused for a fault of form, with the names that it tells
+abbrev pub ill_line : Ill → List ℕ
+ill_line ill = refused_at ill.span (kind_text ill.kind ++ idents_text ill.names)
 
 -- each number on a line of its own
 abbrev pub print_lines : List ℤ → List ℕ

@@ -1,7 +1,7 @@
 //! The lines that the program writes.
 #![tactic(auto)]
 
-ghost use Rattle.std.specs.Prelude.{◌≡◌, ◌++◌, ◌∷◌, [], map, IfOk, OnOk};
+ghost use Rattle.std.specs.Prelude.{◌≡◌, ◌++◌, ◌∷◌, [], codes, map, IfOk, OnOk};
 ghost use Rattle.std.specs.List.{flat_map};
 ghost use Rattle.chan_base.specs.Names.{name_text};
 ghost use Rattle.chan_machine.specs.Reading.{why_of, entry_of, ending_as};
@@ -9,7 +9,8 @@ ghost use Rattle.chanl_lines.specs.Lines as spec;
 
 use chan_base::{Bytes, Memory, Name};
 use chan_machine::{Ending, Entry, Event, StuckWhy};
-use chan_syntax::Span;
+use chan_syntax::{Ident, Span};
+use form_faults::{Ill, IllKind};
 use std::alloc::Global;
 
 #[tactic(auto, using(crate::proofs::Prints::by_entries))]
@@ -23,9 +24,9 @@ pub fn run_text(alloc: Global, entries: &[Entry], ending: &Ending) -> Result<Byt
     Ok(Bytes::from_vec(text))
 }
 
-/// The line that refuses a text for what stands at a place.
-pub fn refused_at(alloc: Global, span: Span, why: &[u8]) -> Result<Bytes, Memory>
-    ensures { IfOk result (λ text. text ≡ spec.refused_at span why.now) }
+/// The beginning of a line that refuses a text for what stands at a place.
+fn refused_text(alloc: Global, span: Span) -> Result<Vec<u8>, Memory>
+    ensures { IfOk result (λ text. text.items ≡ codes "refused " ++ (spec.place_text span ++ 32 ∷ [])) }
 {
     let mut text = Vec::from_slice(alloc, b"refused ")?;
     let line = span.line.to_string(alloc)?;
@@ -34,7 +35,59 @@ pub fn refused_at(alloc: Global, span: Span, why: &[u8]) -> Result<Bytes, Memory
     let column = span.column.to_string(alloc)?;
     text.extend_from_slice(column.as_bytes())?;
     text.push(b' ')?;
+    Ok(text)
+}
+
+/// The line that refuses a text for what stands at a place.
+pub fn refused_at(alloc: Global, span: Span, why: &[u8]) -> Result<Bytes, Memory>
+    ensures { IfOk result (λ text. text ≡ spec.refused_at span why.now) }
+{
+    let mut text = refused_text(alloc, span)?;
     text.extend_from_slice(why)?;
+    text.push(b'\n')?;
+    Ok(Bytes::from_vec(text))
+}
+
+fn kind_text(kind: IllKind) -> &'static [u8]
+    ensures { result.now ≡ spec.kind_text kind }
+{
+    match kind {
+        IllKind::UnknownName => b"unknown name",
+        IllKind::Twice => b"twice",
+        IllKind::Arity => b"arity",
+        IllKind::NoMain => b"no main",
+        IllKind::Unscoped => b"unscoped",
+        IllKind::Unguarded => b"unguarded",
+        IllKind::TooMany => b"too many",
+        IllKind::BadNumber => b"bad number",
+        IllKind::WrongSession => b"wrong session",
+    }
+}
+
+fn add_ident(text: &mut Vec<u8>, name: &Ident) -> Result<(), Memory>
+    ensures { OnOk result (text.new.items ≡ text.old.items ++ spec.after_blank name.now) }
+{
+    text.push(b' ')?;
+    text.extend_from_slice(name.as_slice())?;
+    Ok(())
+}
+
+fn add_idents(text: &mut Vec<u8>, names: &[Ident]) -> Result<(), Memory>
+    ensures { OnOk result (text.new.items ≡ text.old.items ++ spec.idents_text names.now) }
+{
+    for name in names {
+        add_ident(text, name)?;
+    }
+    Ok(())
+}
+
+/// The line that refuses a text for a fault of form.
+pub fn ill_line(alloc: Global, ill: &Ill) -> Result<Bytes, Memory>
+    ensures { IfOk result (λ text. text ≡ spec.ill_line ill.now) }
+{
+    let mut text = refused_text(alloc, ill.span)?;
+    text.extend_from_slice(kind_text(ill.kind))?;
+    add_idents(&mut text, ill.names.as_slice())?;
     text.push(b'\n')?;
     Ok(Bytes::from_vec(text))
 }
