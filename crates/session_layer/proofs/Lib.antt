@@ -2,3 +2,4 @@ pub mod Places
 pub mod Roots
 pub mod CoreBlocks
 pub mod Grown
+pub mod Drafted

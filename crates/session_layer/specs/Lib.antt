@@ -1,3 +1,4 @@
 pub mod Core
 pub mod Lowering
 pub mod Rooted
+pub mod Drafts

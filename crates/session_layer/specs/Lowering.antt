@@ -15,6 +15,9 @@ use Rattle.core_programs.specs.declared.nodes.Node.{Node}
 use Rattle.core_programs.specs.declared.nodes.Node.TheVariants as node
 use Rattle.core_programs.specs.declared.nodes.Func.{Func}
 use Rattle.core_programs.specs.declared.nodes.Parts.{Parts}
+use Rattle.core_programs.specs.declared.faults.BuildFault.{BuildFault}
+use Rattle.core_programs.specs.declared.faults.BuildFault.TheVariants as fault
+use Rattle.core_programs.specs.Form.{IsFault}
 use Rattle.core_programs.specs.Formed.{IsNumbered}
 
 -- the node of a statement, where the node of this number follows
@@ -86,3 +89,8 @@ AreOf nodes (decl.Func f ∷ ds) protos funcs =
 pub record IsLowered (surface : Surface) (parts : Parts) : Type 0 where
   pub declared : AreOf parts.nodes surface.decls parts.protos parts.funcs
   pub numbered : IsNumbered parts
+
+-- the first fault of the form of its parts, unless memory failed
+abbrev pub IsFaultOf : Surface → BuildFault → Type 0
+IsFaultOf surface (fault.Ill ill) = (parts : Parts) × IsLowered surface parts × IsFault parts ill
+IsFaultOf surface fault.Memory = Unit {0}

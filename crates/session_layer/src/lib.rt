@@ -3,7 +3,9 @@
 
 mod adding;
 mod cores;
+mod lowering;
 mod numbering;
 mod statements;
 
 pub use cores::is_core;
+pub use lowering::lower;

@@ -13,12 +13,7 @@ use core_programs::Nodes;
 use std::alloc::Global;
 
 /// Adds the nodes of statements before the body at this number.
-fn number_stmts(
-    alloc: Global,
-    nodes: &mut Nodes,
-    stmts: &[Stmt],
-    last: u32,
-) -> Result<u32, Memory>
+fn number_stmts(alloc: Global, nodes: &mut Nodes, stmts: &[Stmt], last: u32) -> Result<u32, Memory>
     requires core { list_all is_core_stmt stmts.now ≡ true }
     ensures adds { IfOk result (Adds nodes.old nodes.new (last ∷ [])) }
     ensures body { IfOk result (λ n. StmtsAt nodes.new stmts.now n last) }
@@ -95,7 +90,7 @@ fn number_last(alloc: Global, nodes: &mut Nodes, last: &Last) -> Result<u32, Mem
 
 /// Adds the nodes of a block, and gives the number of its first one.
 #[cycle(numbering)]
-fn number_block(alloc: Global, nodes: &mut Nodes, block: &Block) -> Result<u32, Memory>
+pub(crate) fn number_block(alloc: Global, nodes: &mut Nodes, block: &Block) -> Result<u32, Memory>
     requires core { is_core_block block.now ≡ true }
     ensures adds { IfOk result (Adds nodes.old nodes.new []) }
     ensures body { IfOk result (IsBodyAt nodes.new block.now) }
