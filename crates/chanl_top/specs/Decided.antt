@@ -3,6 +3,8 @@ use Rattle.std.specs.Prelude.{◌≡◌, ℕ, ◌≤◌, ◌⊎◌, List, [], le
 use Rattle.std.specs.Io.KnownBytes.{Appends}
 use Rattle.chan_base.specs.Stream.{Rose, AppendsFront}
 use Rattle.chanl_lines.specs.Lines.{read_fault}
+use Rattle.chanl_words.specs.declared.Command.{Command}
+use Rattle.chanl_words.specs.declared.Command.TheVariants as command
 use Rattle.chanl_top.specs.declared.status.Status.{Status}
 use Rattle.chanl_top.specs.declared.status.Status.TheVariants as status
 use Rattle.chanl_top.specs.declared.verdicts.Verdict.{Verdict}
@@ -46,3 +48,8 @@ ReadsWhole old new s = IsSettled s → (bytes : List ℕ) → old ≡ Some bytes
 abbrev pub Finishes : Option (List ℕ) → Option (List ℕ) → ℕ → ℕ → Status → List ℕ → Status → Type 0
 Finishes old new before now s text result =
     ((result ≡ s) × Appends old new text) ⊎ ((result ≡ status.WriteFault) × Rose before now × AppendsFront old new text)
+
+-- a replay has no more rounds than the option takes
+abbrev pub AreFew : Command → Type 0
+AreFew command.Fmt = Unit {0}
+AreFew (command.Replay rounds) = rounds ≤ 1000000000

@@ -1,16 +1,20 @@
 -- What the program answers to its words and its input.
-use Rattle.std.specs.Prelude.{◌≡◌, ℕ, ◌<◌, ◌≤◌, ◌⊎◌, codes, List, length}
+use Rattle.std.specs.Prelude.{◌≡◌, ℕ, ◌<◌, ◌≤◌, ◌⊎◌, true, false, codes, List, length}
 use Rattle.core_language.specs.Programs.{Program}
 use Rattle.core_language.specs.Rounds.{Run, run_of}
 use Rattle.core_language.specs.Endings.{Ending, ending_of}
 use Rattle.core_language.specs.Endings as ending
-use Rattle.first_grammar.specs.Grammar.{Reads, IsNoProgram}
-use Rattle.first_grammar.specs.Printing.{program_printing}
 use Rattle.chanl_words.specs.declared.Command.{Command}
 use Rattle.chanl_words.specs.declared.Command.TheVariants as command
 use Rattle.chanl_words.specs.Words.{Admits, IsUsage}
-use Rattle.chanl_lines.specs.Lines.{usage, refused, refused_at, run_text}
+use Rattle.chanl_lines.specs.Lines.{usage, refused, refused_at, ill_line, run_text}
 use Rattle.chan_syntax.specs.declared.surface_tree.Surface.{Surface}
+use Rattle.form_faults.specs.declared.faults.Ill.{Ill}
+use Rattle.core_programs.specs.declared.nodes.Parts.{Parts}
+use Rattle.core_programs.specs.Bodies.{program_of}
+use Rattle.core_programs.specs.Form.{HasForm, IsFault}
+use Rattle.session_layer.specs.Core.{is_core}
+use Rattle.session_layer.specs.Lowering.{IsLowered}
 use Rattle.text_tokens.specs.Text.{Token, HasTokens, Fault, bad_byte, bad_token, number_too_large, IsFirstFault}
 use Rattle.surface_grammar.specs.Language.{Derives}
 use Rattle.surface_spelling.specs.Spelling.{spelling}
@@ -37,10 +41,6 @@ refusal why = record { status = status.TextRefused; output = refused why }
 -- the greatest length of a text
 abbrev pub longest : ℕ
 longest = 1048576
-
--- how many rounds a run has at the most
-abbrev pub default_rounds : ℕ
-default_rounds = 1000000
 
 -- the status of a run that ended so
 abbrev pub ending_status : Ending → Status
@@ -96,17 +96,25 @@ IsFmtVerdict text verdict =
     ((tree : Surface) × ReadsAs text tree × (verdict ≡ record { status = status.Done; output = spelling tree }))
     ⊎ ((line : List ℕ) × IsUnread text line × (verdict ≡ line_refusal line))
 
--- the run of a program that prints numbers; other texts of the grammar can't be run yet
-abbrev pub IsReplayVerdict : List ℕ → Verdict → Type 0
-IsReplayVerdict text verdict =
-    ((tokens : List Token) × HasTokens text tokens × ((tree : Surface) × Derives tree tokens) × (numbers : List ℕ) × Reads tokens numbers
-    × (verdict ≡ replayed (program_printing numbers) default_rounds))
-    ⊎ (((tokens : List Token) × HasTokens text tokens × ((tree : Surface) × Derives tree tokens) × IsNoProgram tokens × (verdict ≡ refusal (codes "not yet")))
-    ⊎ ((line : List ℕ) × IsUnread text line × (verdict ≡ line_refusal line)))
+-- the run of the program to which the tree is lowered, or the first fault of its form
+abbrev pub IsRunVerdict : Surface → ℕ → Verdict → Type 0
+IsRunVerdict tree rounds verdict =
+    (parts : Parts) × IsLowered tree parts
+    × ((HasForm parts × (verdict ≡ replayed (program_of parts) rounds)) ⊎ ((ill : Ill) × IsFault parts ill × (verdict ≡ line_refusal (ill_line ill))))
+
+-- trees with sessions can't be run yet
+abbrev pub IsTreeVerdict : Surface → ℕ → Verdict → Type 0
+IsTreeVerdict tree rounds verdict =
+    ((is_core tree ≡ true) × IsRunVerdict tree rounds verdict) ⊎ ((is_core tree ≡ false) × (verdict ≡ refusal (codes "not yet")))
+
+abbrev pub IsReplayVerdict : ℕ → List ℕ → Verdict → Type 0
+IsReplayVerdict rounds text verdict =
+    ((tree : Surface) × ReadsAs text tree × IsTreeVerdict tree rounds verdict)
+    ⊎ ((line : List ℕ) × IsUnread text line × (verdict ≡ line_refusal line))
 
 abbrev pub IsTextVerdict : Command → List ℕ → Verdict → Type 0
 IsTextVerdict command.Fmt text verdict = IsFmtVerdict text verdict
-IsTextVerdict command.Replay text verdict = IsReplayVerdict text verdict
+IsTextVerdict (command.Replay rounds) text verdict = IsReplayVerdict rounds text verdict
 
 -- a text that is too long is refused for that alone
 abbrev pub IsCommandVerdict : Command → List ℕ → Verdict → Type 0

@@ -1,4 +1,4 @@
-//! Reading a text: its tokens and its tree, or why it has none.
+//! Reading a text: its tree, or why it has none.
 ghost use Rattle.std.specs.Prelude.{◌≡◌, ◌<◌, length, IfOk};
 ghost use Rattle.chanl_top.specs.Readings.{IsReading, IsReadingOf};
 
@@ -9,10 +9,10 @@ use chan_syntax::Surface;
 use chanl_lines::refused_at;
 use std::alloc::Global;
 
-/// The tokens of a text with the tree that they derive, or the line that refuses the text.
+/// The tree of a text, or the line that refuses the text.
 #[derive(Drop)]
 pub enum Reading {
-    Tree(Tokens, Surface),
+    Tree(Surface),
     Refused(Bytes),
 }
 
@@ -21,7 +21,7 @@ fn read_tokens(alloc: Global, tokens: Tokens) -> Result<Reading, Memory>
 {
     let _list = tokens.list();
     match parse(alloc, &tokens) {
-        Ok(tree) => Ok(Reading::Tree(tokens, tree)),
+        Ok(tree) => Ok(Reading::Tree(tree)),
         Err(ParseFault::Unexpected(span)) => {
             let line = refused_at(alloc, span, b"unexpected")?;
             Ok(Reading::Refused(line))

@@ -5,7 +5,7 @@ ghost use Rattle.chan_base.specs.Stream.{Rose, AppendsFront};
 ghost use Rattle.chanl_words.specs.Words.{Admits, IsUsage};
 ghost use Rattle.chanl_lines.specs.Lines.{read_fault};
 ghost use Rattle.chanl_top.specs.Verdict.{IsVerdict, IsCommandVerdict};
-ghost use Rattle.chanl_top.specs.Decided.{IsSettled, IsOfProgram, ReadsWhole, Decides, Finishes};
+ghost use Rattle.chanl_top.specs.Decided.{AreFew, IsSettled, IsOfProgram, ReadsWhole, Decides, Finishes};
 
 use crate::status::Status;
 use crate::verdicts::{Verdict, answer_to};
@@ -36,6 +36,7 @@ fn read_and_answer<S: Source>(
     command: Command,
     source: &mut S,
 ) -> Result<Verdict, Memory>
+    requires rounds { AreFew command }
     ensures answer { IfOk result (Decides (IsCommandVerdict command) (S.left source.old) (S.faults source.old) (S.faults source.new)) }
     ensures whole { IfOk result (λ v. ReadsWhole (S.left source.old) (S.left source.new) v.status) }
     ensures of_program { IfOk result (λ v. IsOfProgram v.status → IsAtEnd (S.left source.new)) }

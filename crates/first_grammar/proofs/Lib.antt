@@ -1,6 +1,0 @@
-pub mod Blocks
-pub mod Decided
-pub mod Parts
-pub mod Counts
-pub mod Readings
-pub mod TokenWords

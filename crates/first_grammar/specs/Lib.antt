@@ -1,3 +1,0 @@
-pub mod Grammar
-pub mod Test
-pub mod Printing
