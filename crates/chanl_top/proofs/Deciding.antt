@@ -2,23 +2,23 @@
 use Rattle.std.proofs.Common.{◌≡◌, ℕ, ◌+◌, ◌<◌, ◌≤◌, List, ◌++◌, length, codes, Option, Some, None, sym, ap, ◌∙◌, subst, arith, inl, inr, append-nil, length-append}
 use Rattle.std.specs.Io.KnownBytes.{Consumes, IsAtEnd, Appends}
 use Rattle.core_language.specs.Programs.{Program}
-use Rattle.core_language.specs.Rounds.{Run, Entry, run_of}
+use Rattle.core_programs.specs.Bodies.{program_of}
+use Rattle.core_language.specs.Rounds.{Entry, run_of}
 use Rattle.core_language.specs.Endings.{Ending, ending_of}
 use Rattle.core_language.specs.Endings as ending
 use Rattle.chan_base.specs.Stream.{Takes}
 use Rattle.chan_syntax.specs.declared.surface_tree.Surface.{Surface}
 use Rattle.surface_grammar.specs.Language.{Derives}
-use Rattle.first_grammar.specs.Grammar.{Reads}
-use Rattle.first_grammar.specs.Printing.{program_printing}
 use Rattle.text_tokens.specs.Text.{Token, HasTokens}
 use Rattle.chanl_words.specs.declared.Command.{Command}
 use Rattle.chanl_words.specs.declared.Command.TheVariants as command
 use Rattle.chanl_words.specs.Words.{Admits}
+use Rattle.chanl_words.proofs.OneCommand.{few_rounds}
 use Rattle.chanl_lines.specs.Lines.{run_text}
 use Rattle.chanl_top.specs.declared.status.Status.{Status}
 use Rattle.chanl_top.specs.declared.verdicts.Verdict.{Verdict}
-use Rattle.chanl_top.specs.Verdict.{refusal, longest, default_rounds, ending_status, replayed, IsFmtVerdict, IsReplayVerdict, IsTextVerdict, IsCommandVerdict, IsVerdict}
-use Rattle.chanl_top.specs.Decided.{IsSettled, Decides, Finishes}
+use Rattle.chanl_top.specs.Verdict.{refusal, longest, ending_status, replayed, IsFmtVerdict, IsTreeVerdict, IsReplayVerdict, IsTextVerdict, IsCommandVerdict, IsVerdict}
+use Rattle.chanl_top.specs.Decided.{AreFew, IsSettled, Decides, Finishes}
 
 -- all was read, so the bytes are those that were left
 all_read : (old new : Option (List ℕ)) (bytes all : List ℕ) → Consumes old new bytes → IsAtEnd new → old ≡ Some all → bytes ≡ all
@@ -52,29 +52,34 @@ settled_fmt : (text : List ℕ) (v : Verdict) → IsFmtVerdict text v → IsSett
 settled_fmt text v (inl (tree, reads, is)) = subst (λ (u : Verdict). IsSettled u.status) (sym is) tt
 settled_fmt text v (inr (line, unread, is)) = subst (λ (u : Verdict). IsSettled u.status) (sym is) tt
 
-settled_replay : (text : List ℕ) (v : Verdict) → IsReplayVerdict text v → IsSettled v.status
-settled_replay text v (inl (tokens, has, tree, ns, reads, is)) =
-    subst (λ (u : Verdict). IsSettled u.status) (sym is) (settled_ending (ending_of (program_printing ns) (run_of (program_printing ns) default_rounds).config))
-settled_replay text v (inr (inl (tokens, has, tree, none, is))) = subst (λ (u : Verdict). IsSettled u.status) (sym is) tt
-settled_replay text v (inr (inr (line, unread, is))) = subst (λ (u : Verdict). IsSettled u.status) (sym is) tt
+settled_tree : (tree : Surface) (rounds : ℕ) (v : Verdict) → IsTreeVerdict tree rounds v → IsSettled v.status
+settled_tree tree rounds v (inl (core, parts, lowered, inl (form, is))) =
+    subst (λ (u : Verdict). IsSettled u.status) (sym is) (settled_ending (ending_of (program_of parts) (run_of (program_of parts) rounds).config))
+settled_tree tree rounds v (inl (core, parts, lowered, inr (ill, fault, is))) = subst (λ (u : Verdict). IsSettled u.status) (sym is) tt
+settled_tree tree rounds v (inr (session, is)) = subst (λ (u : Verdict). IsSettled u.status) (sym is) tt
+
+settled_replay : (rounds : ℕ) (text : List ℕ) (v : Verdict) → IsReplayVerdict rounds text v → IsSettled v.status
+settled_replay rounds text v (inl (tree, reads, is)) = settled_tree tree rounds v is
+settled_replay rounds text v (inr (line, unread, is)) = subst (λ (u : Verdict). IsSettled u.status) (sym is) tt
 
 settled_text : (command : Command) (text : List ℕ) (v : Verdict) → IsTextVerdict command text v → IsSettled v.status
 settled_text command.Fmt text v is = settled_fmt text v is
-settled_text command.Replay text v is = settled_replay text v is
+settled_text (command.Replay rounds) text v is = settled_replay rounds text v is
 
 -- ---- what was decided
 
--- the run of the program that the tokens are
-pub text_run : (text : List ℕ) (tokens : List Token) (program : Program) (run : Run) (entries : List Entry) (e : Ending) (s : Status) (output : List ℕ)
-    → HasTokens text tokens → (tree : Surface) × Derives tree tokens → (ns : List ℕ) × Reads tokens ns × (program ≡ program_printing ns) → run ≡ run_of program default_rounds → entries ≡ run.entries
-    → e ≡ ending_of program (run_of program default_rounds).config → s ≡ ending_status e → output ≡ run_text entries e
-    → IsReplayVerdict text (record { status = s; output = output })
-text_run text tokens program run entries e s output has derived (ns, reads, same) runs are ends is writes =
-    let settled : s ≡ (replayed program default_rounds).status = is ∙ ap ending_status ends in
-    let written : output ≡ (replayed program default_rounds).output =
-    writes ∙ ap (λ xs. run_text xs e) (are ∙ ap (λ (r : Run). r.entries) runs) ∙ ap (run_text (run_of program default_rounds).entries) ends in
-    let whole : record { status = s; output = output } ≡ replayed program default_rounds = λ i. record { status = settled i; output = written i } in
-    inl (tokens, has, derived, ns, reads, whole ∙ ap (λ p. replayed p default_rounds) same)
+-- what a run writes, and the status with which it ends
+pub run_verdict : (program : Program) (rounds : ℕ) (entries : List Entry) (e : Ending) (s : Status) (output : List ℕ) → entries ≡ (run_of program rounds).entries
+    → e ≡ ending_of program (run_of program rounds).config → s ≡ ending_status e → output ≡ run_text entries e
+    → record { status = s; output = output } ≡ replayed program rounds
+run_verdict program rounds entries e s output are ends is writes =
+    let settled : s ≡ (replayed program rounds).status = is ∙ ap ending_status ends in
+    let written : output ≡ (replayed program rounds).output = writes ∙ ap (λ xs. run_text xs e) are ∙ ap (run_text (run_of program rounds).entries) ends in
+    λ i. record { status = settled i; output = written i }
+
+pub few : (words : List (List ℕ)) (command : Command) → Admits words command → AreFew command
+few words command.Fmt admitted = tt
+few words (command.Replay rounds) admitted = few_rounds words rounds admitted
 
 pub decides_text : (command : Command) (left new : Option (List ℕ)) (before now : ℕ) (v : Verdict) (text bytes : List ℕ) → text ≡ bytes → IsTextVerdict command text v
     → Consumes left new bytes → IsAtEnd new → length bytes ≤ longest → Decides (IsCommandVerdict command) left before now v

@@ -1,5 +1,6 @@
 -- The words and the bytes have one verdict.
-use Rattle.std.proofs.Common.{◌≡◌, ℕ, ◌+◌, List, [], ◌∷◌, refl, sym, ap, ◌∙◌, subst, arith, inl, inr}
+use Rattle.std.proofs.Common.{◌≡◌, ℕ, ◌+◌, List, [], ◌∷◌, Option, Some, None, true≢false, refl, sym, ap, ◌∙◌, subst, arith, ◌⊎◌, inl, inr}
+use Rattle.std.proofs.lemmas.Option.{none-some, same_Some}
 use Rattle.chan_syntax.specs.declared.surface_tree.Surface.{Surface}
 use Rattle.text_tokens.specs.Text.{Token}
 use Rattle.text_tokens.proofs.Cuts.{one_list, one_first_fault, never_both}
@@ -15,12 +16,17 @@ use Rattle.surface_spelling.specs.Spelling.{spelling}
 use Rattle.chanl_top.specs.declared.status.Status.TheVariants as status
 use Rattle.chanl_words.specs.declared.Command.{Command}
 use Rattle.chanl_words.specs.declared.Command.TheVariants as command
-use Rattle.chanl_words.specs.Words.{name_of}
-use Rattle.first_grammar.specs.Grammar.{Reads}
-use Rattle.first_grammar.specs.Printing.{program_printing}
-use Rattle.first_grammar.proofs.Readings.{one_reading}
+use Rattle.chanl_words.proofs.OneCommand.{one_command}
+use Rattle.chanl_lines.specs.Lines.{ill_line}
+use Rattle.form_faults.specs.declared.faults.Ill.{Ill}
+use Rattle.core_programs.specs.declared.nodes.Parts.{Parts}
+use Rattle.core_programs.specs.Bodies.{program_of}
+use Rattle.core_programs.specs.Form.{HasForm, IsFault, Passes}
+use Rattle.session_layer.specs.Lowering.{IsLowered}
+use Rattle.form_laws.proofs.OneFault.{one_outcome}
+use Rattle.lowered_laws.proofs.OneProgram.{same_program, same_faults}
 use Rattle.chanl_top.specs.declared.verdicts.Verdict.{Verdict}
-use Rattle.chanl_top.specs.Verdict.{default_rounds, replayed, lexing_line, grammar_line, line_refusal, ReadsAs, IsUnread, IsFmtVerdict, IsReplayVerdict, IsTextVerdict, IsCommandVerdict, IsVerdict}
+use Rattle.chanl_top.specs.Verdict.{replayed, lexing_line, grammar_line, line_refusal, ReadsAs, IsUnread, IsFmtVerdict, IsTreeVerdict, IsReplayVerdict, IsTextVerdict, IsCommandVerdict, IsVerdict}
 
 -- ---- a text is read as one tree, or refused by one line
 
@@ -60,23 +66,36 @@ one_fmt text v u (inl (s, reads, is)) (inr (line, unread, is_too)) = absurd (rea
 one_fmt text v u (inr (line, unread, is)) (inl (t, reads, is_too)) = absurd (read_or_refused text line t reads unread)
 one_fmt text v u (inr (line, unread, is)) (inr (other, unread_too, is_too)) = is ∙ ap line_refusal (one_line text line other unread unread_too) ∙ sym is_too
 
-one_replay : (text : List ℕ) (v u : Verdict) → IsReplayVerdict text v → IsReplayVerdict text u → v ≡ u
-one_replay text v u (inl (ts, has, tree, ns, reads, is)) (inl (us, has_too, tree_too, ms, reads_too, is_too)) =
-    is ∙ ap (λ k. replayed (program_printing k) default_rounds) (one_reading us ns ms (subst (λ xs. Reads xs ns) (one_list text ts us has has_too) reads) reads_too) ∙ sym is_too
-one_replay text v u (inl (ts, has, tree, ns, reads, is)) (inr (inl (us, has_too, tree_too, none, is_too))) =
-    absurd (none ns (subst (λ xs. Reads xs ns) (one_list text ts us has has_too) reads))
-one_replay text v u (inl (ts, has, (tree, derives), ns, reads, is)) (inr (inr (line, unread, is_too))) = absurd (read_or_refused text line tree (ts, has, derives) unread)
-one_replay text v u (inr (inl (ts, has, tree, none, is))) (inl (us, has_too, tree_too, ms, reads, is_too)) =
-    absurd (none ms (subst (λ xs. Reads xs ms) (one_list text us ts has_too has) reads))
-one_replay text v u (inr (inl (ts, has, tree, none, is))) (inr (inl (us, has_too, tree_too, none_too, is_too))) = is ∙ sym is_too
-one_replay text v u (inr (inl (ts, has, (tree, derives), none, is))) (inr (inr (line, unread, is_too))) = absurd (read_or_refused text line tree (ts, has, derives) unread)
-one_replay text v u (inr (inr (line, unread, is))) (inl (us, has, (tree, derives), ms, reads, is_too)) = absurd (read_or_refused text line tree (us, has, derives) unread)
-one_replay text v u (inr (inr (line, unread, is))) (inr (inl (us, has, (tree, derives), none, is_too))) = absurd (read_or_refused text line tree (us, has, derives) unread)
-one_replay text v u (inr (inr (line, unread, is))) (inr (inr (other, unread_too, is_too))) = is ∙ ap line_refusal (one_line text line other unread unread_too) ∙ sym is_too
+one_outcome_of : (tree : Surface) (p q : Parts) (r s : Option Ill) → IsLowered tree p → IsLowered tree q → Passes p r → Passes q s → r ≡ s
+one_outcome_of tree p q r s one two found found_too = one_outcome q r s (same_faults tree p q r one two found) found_too
+
+-- a run of the program, or the line of its fault
+abbrev Runs : ℕ → Parts → Verdict → Type 0
+Runs rounds parts v = (HasForm parts × (v ≡ replayed (program_of parts) rounds)) ⊎ ((ill : Ill) × IsFault parts ill × (v ≡ line_refusal (ill_line ill)))
+
+one_run : (tree : Surface) (rounds : ℕ) (p q : Parts) (v u : Verdict) → IsLowered tree p → IsLowered tree q → Runs rounds p v → Runs rounds q u → v ≡ u
+one_run tree rounds p q v u one two (inl (form, is)) (inl (form_too, is_too)) = is ∙ ap (λ c. replayed c rounds) (same_program tree p q one two) ∙ sym is_too
+one_run tree rounds p q v u one two (inl (form, is)) (inr (ill, fault, is_too)) = absurd (none-some ill (one_outcome_of tree p q None (Some ill) one two form fault))
+one_run tree rounds p q v u one two (inr (ill, fault, is)) (inl (form, is_too)) = absurd (none-some ill (sym (one_outcome_of tree p q (Some ill) None one two fault form)))
+one_run tree rounds p q v u one two (inr (ill, fault, is)) (inr (other, fault_too, is_too)) =
+    is ∙ ap (λ i. line_refusal (ill_line i)) (same_Some ill other (one_outcome_of tree p q (Some ill) (Some other) one two fault fault_too)) ∙ sym is_too
+
+one_of_tree : (tree : Surface) (rounds : ℕ) (v u : Verdict) → IsTreeVerdict tree rounds v → IsTreeVerdict tree rounds u → v ≡ u
+one_of_tree tree rounds v u (inl (core, p, one, runs)) (inl (core_too, q, two, runs_too)) = one_run tree rounds p q v u one two runs runs_too
+one_of_tree tree rounds v u (inl (core, run)) (inr (session, is)) = absurd (true≢false (sym core ∙ session))
+one_of_tree tree rounds v u (inr (session, is)) (inl (core, run)) = absurd (true≢false (sym core ∙ session))
+one_of_tree tree rounds v u (inr (session, is)) (inr (session_too, is_too)) = is ∙ sym is_too
+
+one_replay : (rounds : ℕ) (text : List ℕ) (v u : Verdict) → IsReplayVerdict rounds text v → IsReplayVerdict rounds text u → v ≡ u
+one_replay rounds text v u (inl (s, reads, is)) (inl (t, reads_too, is_too)) =
+    one_of_tree t rounds v u (subst (λ tree. IsTreeVerdict tree rounds v) (one_surface text s t reads reads_too) is) is_too
+one_replay rounds text v u (inl (s, reads, is)) (inr (line, unread, is_too)) = absurd (read_or_refused text line s reads unread)
+one_replay rounds text v u (inr (line, unread, is)) (inl (t, reads, is_too)) = absurd (read_or_refused text line t reads unread)
+one_replay rounds text v u (inr (line, unread, is)) (inr (other, unread_too, is_too)) = is ∙ ap line_refusal (one_line text line other unread unread_too) ∙ sym is_too
 
 one_of_text : (c : Command) (text : List ℕ) (v u : Verdict) → IsTextVerdict c text v → IsTextVerdict c text u → v ≡ u
 one_of_text command.Fmt text v u is is_too = one_fmt text v u is is_too
-one_of_text command.Replay text v u is is_too = one_replay text v u is is_too
+one_of_text (command.Replay rounds) text v u is is_too = one_replay rounds text v u is is_too
 
 one_of_command : (c : Command) (text : List ℕ) (v u : Verdict) → IsCommandVerdict c text v → IsCommandVerdict c text u → v ≡ u
 one_of_command c text v u (inl (few, is)) (inl (few_too, is_too)) = one_of_text c text v u is is_too
@@ -84,15 +103,9 @@ one_of_command c text v u (inl (few, is)) (inr (many, is_too)) = absurd (omega (
 one_of_command c text v u (inr (many, is)) (inl (few, is_too)) = absurd (omega (arith, few, many))
 one_of_command c text v u (inr (many, is)) (inr (many_too, is_too)) = is ∙ sym is_too
 
-same_command : (c d : Command) → name_of c ∷ [] ≡ name_of d ∷ [] → c ≡ d
-same_command command.Fmt command.Fmt e = refl
-same_command command.Replay command.Replay e = refl
-same_command command.Fmt command.Replay e = cc
-same_command command.Replay command.Fmt e = cc
-
 pub one_verdict : (words : List (List ℕ)) (bytes : List ℕ) (v u : Verdict) → IsVerdict words bytes v → IsVerdict words bytes u → v ≡ u
 one_verdict words bytes v u (inl (c, admitted, is)) (inl (d, admitted_too, is_too)) =
-    one_of_command c bytes v u is (subst (λ k. IsCommandVerdict k bytes u) (same_command d c (sym admitted_too ∙ admitted)) is_too)
+    one_of_command c bytes v u is (subst (λ k. IsCommandVerdict k bytes u) (one_command words d c admitted_too admitted) is_too)
 one_verdict words bytes v u (inl (c, admitted, is)) (inr (none, is_too)) = absurd (none c admitted)
 one_verdict words bytes v u (inr (none, is)) (inl (c, admitted, is_too)) = absurd (none c admitted)
 one_verdict words bytes v u (inr (none, is)) (inr (none_too, is_too)) = is ∙ sym is_too

@@ -5,6 +5,7 @@ use Rattle.chan_base.specs.Stream.{Rose, AppendsFront}
 use Rattle.chanl_lines.specs.Lines.{read_fault}
 use Rattle.chanl_words.specs.declared.Command.{Command}
 use Rattle.chanl_words.specs.declared.Command.TheVariants as command
+use Rattle.chanl_words.specs.Words.{most_rounds}
 use Rattle.chanl_top.specs.declared.status.Status.{Status}
 use Rattle.chanl_top.specs.declared.status.Status.TheVariants as status
 use Rattle.chanl_top.specs.declared.verdicts.Verdict.{Verdict}
@@ -52,4 +53,4 @@ Finishes old new before now s text result =
 -- a replay has no more rounds than the option takes
 abbrev pub AreFew : Command → Type 0
 AreFew command.Fmt = Unit {0}
-AreFew (command.Replay rounds) = rounds ≤ 1000000000
+AreFew (command.Replay rounds) = rounds ≤ most_rounds

@@ -2,6 +2,7 @@
 ghost use Rattle.std.specs.Prelude.{◌≡◌, ℕ, ◌≤◌, length, IfOk};
 ghost use Rattle.core_programs.specs.Bodies.{program_of};
 ghost use Rattle.chan_machine.specs.Reading.{ending_as};
+ghost use Rattle.chanl_words.specs.Words.{most_rounds};
 ghost use Rattle.chanl_top.specs.Verdict.{IsFmtVerdict, IsReplayVerdict, IsTextVerdict, IsTreeVerdict, ending_status, line_refusal, replayed};
 ghost use Rattle.chanl_top.specs.Decided.{AreFew};
 
@@ -62,7 +63,7 @@ fn formatted(alloc: Global, text: &[u8]) -> Result<Verdict, Memory>
 
 /// The prints and the ending of a run of so many rounds at the most.
 fn run(alloc: Global, program: &Program, rounds: u64) -> Result<Verdict, Memory>
-    requires { rounds ≤ 1000000000 }
+    requires { rounds ≤ most_rounds }
     ensures { IfOk result (λ verdict. verdict ≡ replayed (program_of program.now) rounds) }
 {
     let replayed = replay(alloc, program, rounds)?;
@@ -75,7 +76,7 @@ fn run(alloc: Global, program: &Program, rounds: u64) -> Result<Verdict, Memory>
 
 /// The run of a tree, or why it can't be run.
 fn run_tree(alloc: Global, tree: &Surface, rounds: u64) -> Result<Verdict, Memory>
-    requires { rounds ≤ 1000000000 }
+    requires { rounds ≤ most_rounds }
     ensures { IfOk result (IsTreeVerdict tree.now rounds) }
 {
     if !is_core(tree) {
@@ -98,7 +99,7 @@ fn run_tree(alloc: Global, tree: &Surface, rounds: u64) -> Result<Verdict, Memor
 /// The run of a text.
 fn replayed(alloc: Global, text: &[u8], rounds: u64) -> Result<Verdict, Memory>
     requires text { length text.now ≤ 1048576 }
-    requires rounds { rounds ≤ 1000000000 }
+    requires rounds { rounds ≤ most_rounds }
     ensures { IfOk result (IsReplayVerdict rounds text.now) }
 {
     match read(alloc, text)? {
