@@ -85,7 +85,6 @@ fn unended(alloc: Global, program: &Program, config: &Config) -> Result<Names, M
     ensures { IfOk result (λ names. names ≡ unended_of (config_of program.now config.now)) }
 {
     let mut names = Items::new(alloc);
-    let _ordered = config.tasks.len();
     'tasks: for (name, task) in config.tasks.iter() {
         if !task.frames().is_empty() {
             names.push(name.copy(alloc)?)?;
