@@ -1,5 +1,5 @@
 -- The names in a map, in order.
-use Rattle.std.proofs.Common.{◌≡◌, not, filter, reverse, cond, Bool, true, false, ◌&&◌, List, [], ◌∷◌, ◌++◌, append-nil, append_assoc, map, T, Ordering, Less, Equal, Greater, refl, ap, sym, ◌∙◌}
+use Rattle.std.proofs.Common.{◌≡◌, not, filter, reverse, cond, Bool, true, false, ◌&&◌, List, [], ◌∷◌, ◌++◌, append_assoc, map, T, Ordering, Less, Equal, Greater, refl, ap, sym, ◌∙◌}
 use Rattle.std.proofs.lemmas.List.{reverse-reverse}
 use Rattle.std.specs.Ordering.{nat_cmp, is_lt}
 use Rattle.std.specs.Cmp.Lexicographic.{slice_cmp}

@@ -17,11 +17,7 @@ use std::alloc::Global;
 use std::collections::BTreeMap;
 
 /// Puts the task under its name.
-fn put_task(
-    alloc: Global,
-    tasks: &mut BTreeMap<Name, Task>,
-    task: Task,
-) -> Result<(), Memory>
+fn put_task(alloc: Global, tasks: &mut BTreeMap<Name, Task>, task: Task) -> Result<(), Memory>
     ensures tasks { OnOk result ((program : Parts) → map_of (task_of program.nodes) tasks.new ≡ insert (map_of (task_of program.nodes) tasks.old) task.name (task_of program.nodes task)) }
     ensures fits { OnOk result ((program : Parts) → TasksFit program tasks.old → FramesFit program.nodes task.frames.items → TasksFit program tasks.new) }
 {
@@ -53,10 +49,7 @@ fn gather_tasks(alloc: Global, tasks: Tasks) -> Result<BTreeMap<Name, Task>, Mem
 }
 
 /// The channels under their names.
-fn gather_channels(
-    alloc: Global,
-    stores: Stores,
-) -> Result<BTreeMap<Name, Option<Value>>, Memory>
+fn gather_channels(alloc: Global, stores: Stores) -> Result<BTreeMap<Name, Option<Value>>, Memory>
     ensures { IfOk result (λ gathered. map_of (option_map value_as) gathered ≡ channels_named stores) }
 {
     let mut left = stores;
@@ -69,12 +62,7 @@ fn gather_channels(
 
 impl Config {
     /// The configuration of these tasks, channels and prints.
-    pub fn of(
-        alloc: Global,
-        tasks: Tasks,
-        channels: Stores,
-        prints: Puts,
-    ) -> Result<Config, Memory>
+    pub fn of(alloc: Global, tasks: Tasks, channels: Stores, prints: Puts) -> Result<Config, Memory>
         requires tasks { IsDistinct same (map (λ t. t.name) tasks) }
         requires channels { IsDistinct same (map (λ s. s.name) channels) }
         ensures value { IfOk result (λ config. (program : Parts) → config_of program config ≡ config_with program tasks channels prints) }

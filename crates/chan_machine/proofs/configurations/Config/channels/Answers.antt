@@ -1,4 +1,4 @@
-use Rattle.std.proofs.Common.{◌≡◌, ◌++◌, [], map, append-nil, rules, ap, sym, ◌∙◌}
+use Rattle.std.proofs.Common.{◌≡◌, ◌++◌, [], append-nil, rules, ap, sym, ◌∙◌}
 use Rattle.std.specs.Option.{option_map}
 use Rattle.machine_tasks.specs.Reading.{value_as}
 use Rattle.chan_machine.proofs.Listed.{keys_read, names_in}

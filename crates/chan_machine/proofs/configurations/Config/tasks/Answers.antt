@@ -1,4 +1,4 @@
-use Rattle.std.proofs.Common.{◌≡◌, ◌++◌, [], map, append-nil, rules, ap, sym, ◌∙◌}
+use Rattle.std.proofs.Common.{◌≡◌, ◌++◌, [], append-nil, rules, ap, sym, ◌∙◌}
 use Rattle.machine_tasks.specs.Reading.{task_of}
 use Rattle.chan_machine.proofs.Listed.{keys_read, names_in}
 use Rattle.chan_machine.proofs.configurations.Config.tasks.Goals as goal
