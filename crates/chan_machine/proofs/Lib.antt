@@ -7,3 +7,4 @@ pub mod Sifted
 pub mod Turned
 pub mod Begun
 pub mod Listed
+pub mod Ended

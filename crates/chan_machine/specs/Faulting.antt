@@ -4,7 +4,7 @@ use Rattle.core_language.specs.Names.{Name}
 use Rattle.core_language.specs.Programs.{Program}
 use Rattle.core_language.specs.Configurations.{Config}
 use Rattle.core_language.specs.Steps.{Step, machine_step}
-use Rattle.core_language.specs.Endings.{Ending, OutOfRange, TooDeep, stuck_or, stuck_why, is_range, is_depth}
+use Rattle.core_language.specs.Endings.{Ending, OutOfRange, TooDeep, stuck, out_of_range, too_deep, stuck_or, stuck_why, is_range, is_depth}
 use Rattle.chan_machine.specs.declared.endings.Fault.{Fault}
 use Rattle.chan_machine.specs.declared.endings.Fault.TheVariants as fault
 use Rattle.chan_machine.specs.declared.events.Ending.{Ending as Told}
@@ -20,6 +20,10 @@ fault_or fault.Depth p s other = if is_depth s then TooDeep p else other
 abbrev pub first_fault : Fault → Program → Config → List Name → Ending → Ending
 first_fault f program C [] other = other
 first_fault f program C (p ∷ ps) other = fault_or f p (machine_step program C p) (first_fault f program C ps other)
+
+-- that of the first that is stuck; else of the first out of range; else of the first that is too deep
+abbrev pub halted_or : Program → Config → List Name → Ending → Ending
+halted_or program C names other = stuck program C names (out_of_range program C names (too_deep program C names other))
 
 abbrev pub or_else : Option Told → Ending → Ending
 or_else (Some ending) other = ending_as ending

@@ -1,5 +1,6 @@
 -- When a program fits a configuration of the machine.
-use Rattle.std.specs.Prelude.{◌≡◌, ◌<◌, Bool, true, false, Some}
+use Rattle.std.specs.Prelude.{◌≡◌, ◌<◌, Bool, true, false, Some, List}
+use Rattle.std.specs.List.{All}
 use Rattle.std.specs.Ordering.{nat_cmp}
 use Rattle.std.specs.Cmp.Lexicographic.{slice_cmp}
 use Rattle.std.specs.BTreeMap.{BTreeMap, get}
@@ -18,6 +19,10 @@ TasksFit program tasks = (p : Name) (t : Task) → get (slice_cmp nat_cmp) tasks
 
 abbrev pub Fits : Parts → Config → Type 0
 Fits program config = TasksFit program config.tasks
+
+-- the frames of each task fit
+abbrev pub AllFit : Parts → List Task → Type 0
+AllFit program tasks = All (λ t. FramesFit program.nodes t.frames.items) tasks
 
 -- the task has made fewer forks than there are numbers for them
 abbrev pub ForksAt : BTreeMap Name Task → Name → Type 0

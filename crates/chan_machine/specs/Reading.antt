@@ -6,11 +6,13 @@ use Rattle.std.specs.FinMap.{from_entries}
 use Rattle.std.specs.BTreeMap.{BTreeMap}
 use Rattle.std.specs.Option.{option_map}
 use Rattle.core_language.specs.Names.{Name, NameMap}
+use Rattle.core_language.specs.Values as core
 use Rattle.core_language.specs.Configurations as configuration
 use Rattle.core_language.specs.Steps as steps
 use Rattle.core_language.specs.Rounds as rounds
 use Rattle.core_language.specs.Endings as endings
 use Rattle.core_programs.specs.declared.nodes.Parts.{Parts}
+use Rattle.machine_tasks.specs.declared.tasks.Task.{Task}
 use Rattle.machine_tasks.specs.declared.values.Value.{Value}
 use Rattle.machine_tasks.specs.Reading.{value_as, why_of, halt_of, task_of}
 use Rattle.chan_machine.specs.declared.events.Event.{Event}
@@ -21,6 +23,7 @@ use Rattle.chan_machine.specs.declared.events.Entry.{Entry}
 use Rattle.chan_machine.specs.declared.events.Ending.{Ending}
 use Rattle.chan_machine.specs.declared.events.Ending.TheVariants as ending
 use Rattle.chan_machine.specs.declared.configurations.Put.{Put}
+use Rattle.chan_machine.specs.declared.configurations.Store.{Store}
 use Rattle.chan_machine.specs.declared.configurations.Config.{Config}
 
 -- ---- steps
@@ -72,6 +75,18 @@ config_of parts config = record {
   channels = map_of (option_map value_as) config.channels;
   prints = prints_of config.prints;
 }
+
+-- the tasks, each under its name
+abbrev pub tasks_named : Parts → List Task → NameMap configuration.Task
+tasks_named parts tasks = from_entries (map (λ t. (t.name, task_of parts.nodes t)) tasks)
+
+-- the channels, each under its name
+abbrev pub channels_named : List Store → NameMap (Option core.Value)
+channels_named stores = from_entries (map (λ s. (s.name, option_map value_as s.value)) stores)
+
+-- the configuration that has these tasks, channels and prints
+abbrev pub config_with : Parts → List Task → List Store → List Put → configuration.Config
+config_with parts tasks stores puts = record { tasks = tasks_named parts tasks; channels = channels_named stores; prints = prints_of puts }
 
 -- the value on a channel that is there and Full
 abbrev pub stored_in : Option (Option Value) → Option Value

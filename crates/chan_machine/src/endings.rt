@@ -1,10 +1,10 @@
 //! How a run ends.
-ghost use Rattle.std.specs.Prelude.{◌≡◌, not, filter, IfOk};
+ghost use Rattle.std.specs.Prelude.{◌≡◌, ◌&&◌, not, filter, IfOk};
 ghost use Rattle.core_language.specs.Configurations.{Config as ConfigOf};
-ghost use Rattle.core_language.specs.Endings.{Ending as EndingOf, ending_of, is_nil, unended as unended_of};
+ghost use Rattle.core_language.specs.Endings.{Ending as EndingOf, blocked as blocked_of, ending_of, is_nil, unended as unended_of};
 ghost use Rattle.core_language.specs.Rounds.{moves};
 ghost use Rattle.core_programs.specs.Bodies.{program_of};
-ghost use Rattle.chan_machine.specs.Faulting.{fault_or, first_fault, or_else};
+ghost use Rattle.chan_machine.specs.Faulting.{fault_or, first_fault, halted_or, or_else};
 ghost use Rattle.chan_machine.specs.Fits.{Fits};
 ghost use Rattle.chan_machine.specs.Reading.{config_of, ending_as, step_of};
 
@@ -85,7 +85,6 @@ fn unended(alloc: Global, program: &Program, config: &Config) -> Result<Names, M
     ensures { IfOk result (λ names. names ≡ unended_of (config_of program.now config.now)) }
 {
     let mut names = Items::new(alloc);
-    let _ordered = config.tasks.len();
     'tasks: for (name, task) in config.tasks.iter() {
         if !task.frames().is_empty() {
             names.push(name.copy(alloc)?)?;
@@ -94,31 +93,60 @@ fn unended(alloc: Global, program: &Program, config: &Config) -> Result<Names, M
     Ok(names)
 }
 
+/// The ending of the first task that is stuck; else of the first that computes a number out of
+/// range; else of the first that forks too deep.
+fn halted(
+    alloc: Global,
+    program: &Program,
+    config: &Config,
+    names: &Names,
+) -> Result<Option<Ending>, Memory>
+    requires fits { Fits program.now config.now }
+    ensures { IfOk result (λ found. (other : EndingOf) → halted_or (program_of program.now) (config_of program.now config.now) names.now other ≡ or_else found other) }
+{
+    if let Some(ending) = first(alloc, program, config, names, Fault::Stuck)? {
+        return Ok(Some(ending));
+    }
+    if let Some(ending) = first(alloc, program, config, names, Fault::Range)? {
+        return Ok(Some(ending));
+    }
+    let ending = first(alloc, program, config, names, Fault::Depth)?;
+    Ok(ending)
+}
+
+fn are_none(tasks: &Names, channels: &Names) -> bool
+    ensures { result ≡ (is_nil tasks.now && is_nil channels.now) }
+{
+    tasks.is_empty() && channels.is_empty()
+}
+
+/// The ending where no task moves.
+fn blocked(tasks: Names, channels: Names) -> Ending
+    ensures { ending_as result ≡ blocked_of tasks channels }
+{
+    if tasks.is_empty() {
+        Ending::Leaked(channels)
+    } else {
+        Ending::Deadlocked(tasks)
+    }
+}
+
 /// How a run ends that has come to this configuration.
 pub(crate) fn ending(alloc: Global, program: &Program, config: &Config) -> Result<Ending, Memory>
     requires fits { Fits program.now config.now }
     ensures { IfOk result (λ ending. ending_as ending ≡ ending_of (program_of program.now) (config_of program.now config.now)) }
 {
-    let names = config.tasks(alloc)?;
-    let channels = config.channels(alloc)?;
     let waiting = unended(alloc, program, config)?;
-    if waiting.is_empty() && channels.is_empty() {
+    let channels = config.channels(alloc)?;
+    if are_none(&waiting, &channels) {
         return Ok(Ending::Finished);
     }
-    if let Some(ending) = first(alloc, program, config, &names, Fault::Stuck)? {
-        return Ok(ending);
-    }
-    if let Some(ending) = first(alloc, program, config, &names, Fault::Range)? {
-        return Ok(ending);
-    }
-    if let Some(ending) = first(alloc, program, config, &names, Fault::Depth)? {
+    let names = config.tasks(alloc)?;
+    if let Some(ending) = halted(alloc, program, config, &names)? {
         return Ok(ending);
     }
     if any_moves(program, config, &names) {
         return Ok(Ending::Rounds);
     }
-    if waiting.is_empty() {
-        return Ok(Ending::Leaked(channels));
-    }
-    Ok(Ending::Deadlocked(waiting))
+    Ok(blocked(waiting, channels))
 }

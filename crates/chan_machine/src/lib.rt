@@ -5,6 +5,7 @@ mod configurations;
 mod endings;
 mod events;
 mod exchanging;
+mod gathering;
 mod listing;
 mod looking;
 mod moving;

@@ -15,7 +15,6 @@ impl Config {
         ensures { IfOk result (λ names. (program : Parts) → names ≡ keys (config_of program self.now).tasks) }
     {
         let mut names = Items::new(alloc);
-        let _ordered = self.tasks.len();
         'tasks: for (name, _) in self.tasks.iter() {
             names.push(name.copy(alloc)?)?;
         }
@@ -27,7 +26,6 @@ impl Config {
         ensures { IfOk result (λ names. (program : Parts) → names ≡ keys (config_of program self.now).channels) }
     {
         let mut names = Items::new(alloc);
-        let _ordered = self.channels.len();
         'channels: for (name, _) in self.channels.iter() {
             names.push(name.copy(alloc)?)?;
         }
