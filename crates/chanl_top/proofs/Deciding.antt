@@ -53,9 +53,9 @@ settled_fmt text v (inl (tree, reads, is)) = subst (λ (u : Verdict). IsSettled 
 settled_fmt text v (inr (line, unread, is)) = subst (λ (u : Verdict). IsSettled u.status) (sym is) tt
 
 settled_tree : (tree : Surface) (rounds : ℕ) (v : Verdict) → IsTreeVerdict tree rounds v → IsSettled v.status
-settled_tree tree rounds v (inl (core, parts, lowered, inl (form, is))) =
+settled_tree tree rounds v (inl (core, (parts, lowered, inl (form, is)))) =
     subst (λ (u : Verdict). IsSettled u.status) (sym is) (settled_ending (ending_of (program_of parts) (run_of (program_of parts) rounds).config))
-settled_tree tree rounds v (inl (core, parts, lowered, inr (ill, fault, is))) = subst (λ (u : Verdict). IsSettled u.status) (sym is) tt
+settled_tree tree rounds v (inl (core, (parts, lowered, inr (ill, fault, is)))) = subst (λ (u : Verdict). IsSettled u.status) (sym is) tt
 settled_tree tree rounds v (inr (session, is)) = subst (λ (u : Verdict). IsSettled u.status) (sym is) tt
 
 settled_replay : (rounds : ℕ) (text : List ℕ) (v : Verdict) → IsReplayVerdict rounds text v → IsSettled v.status

@@ -81,7 +81,7 @@ one_run tree rounds p q v u one two (inr (ill, fault, is)) (inr (other, fault_to
     is ∙ ap (λ i. line_refusal (ill_line i)) (same_Some ill other (one_outcome_of tree p q (Some ill) (Some other) one two fault fault_too)) ∙ sym is_too
 
 one_of_tree : (tree : Surface) (rounds : ℕ) (v u : Verdict) → IsTreeVerdict tree rounds v → IsTreeVerdict tree rounds u → v ≡ u
-one_of_tree tree rounds v u (inl (core, p, one, runs)) (inl (core_too, q, two, runs_too)) = one_run tree rounds p q v u one two runs runs_too
+one_of_tree tree rounds v u (inl (core, (p, one, runs))) (inl (core_too, (q, two, runs_too))) = one_run tree rounds p q v u one two runs runs_too
 one_of_tree tree rounds v u (inl (core, run)) (inr (session, is)) = absurd (true≢false (sym core ∙ session))
 one_of_tree tree rounds v u (inr (session, is)) (inl (core, run)) = absurd (true≢false (sym core ∙ session))
 one_of_tree tree rounds v u (inr (session, is)) (inr (session_too, is_too)) = is ∙ sym is_too
