@@ -3,3 +3,4 @@ pub mod Roots
 pub mod CoreBlocks
 pub mod Grown
 pub mod Drafted
+pub mod Said
