@@ -1,5 +1,5 @@
 -- The parts of a tree make the program that it says.
-use Rattle.std.proofs.Common.{◌≡◌, ℕ, List, [], ◌∷◌, ◌++◌, map, slice_get, refl, sym, ap, ◌∙◌, subst}
+use Rattle.std.proofs.Common.{◌≡◌, ℕ, List, [], ◌∷◌, ◌++◌, map, sym, ap, ◌∙◌}
 use Rattle.core_language.specs.Programs as core
 use Rattle.chan_syntax.specs.Reading.{term_of, bound_of, res_of, equation_of, pat_of, proto_of}
 use Rattle.chan_syntax.specs.declared.surface_tree.Stmt.{Stmt, Let, Mul, Div, Rem, Call, Fork, ForkDo', Send1, Recv1, Send, Recv, Close, Wait, Choose, Split, Print, Row_of-Stmt, end_of-Stmt, more_of-Stmt}
@@ -8,17 +8,16 @@ use Rattle.chan_syntax.specs.declared.surface_tree.Block.{Block}
 use Rattle.chan_syntax.specs.declared.surface_tree.Decl.{Decl}
 use Rattle.chan_syntax.specs.declared.surface_tree.Decl.TheVariants as decl
 use Rattle.chan_syntax.specs.declared.surface_tree.SurfaceFunc.{SurfaceFunc}
-use Rattle.chan_syntax.specs.declared.surface_tree.Surface.{Surface}
 use Rattle.chan_syntax.specs.declared.resources.Proto.{Proto}
 use Rattle.core_programs.specs.declared.nodes.Node.{Node}
 use Rattle.core_programs.specs.declared.nodes.Node.TheVariants as node
 use Rattle.core_programs.specs.declared.nodes.Func.{Func}
 use Rattle.core_programs.specs.declared.nodes.Parts.{Parts}
-use Rattle.core_programs.specs.Bodies.{span_of, opened, rest, param_of, function_of, program_of}
+use Rattle.core_programs.specs.Bodies.{span_of, opened, rest, param_of, function_of}
 use Rattle.core_programs.specs.Formed.{IsNumbered}
 use Rattle.core_programs.proofs.Forests.{rest_opened}
-use Rattle.session_layer.specs.Lowering.{At, IsNodeOf, StmtsAt, RowAt, EndsAt, BoxedAt, IsBodyAt, AreOf, IsLowered}
-use Rattle.session_layer.specs.Pure.{stmt_in, stmts_in, last_in, row_in, boxed_in, block_in, protos_in, funcs_in, proto_in, program_in, SaysTheTree, IsOneProgram}
+use Rattle.session_layer.specs.Lowering.{At, IsNodeOf, StmtsAt, RowAt, EndsAt, BoxedAt, IsBodyAt, AreOf}
+use Rattle.session_layer.specs.Pure.{stmt_in, stmts_in, last_in, row_in, boxed_in, block_in, protos_in, funcs_in, proto_in, SaysTheTree, IsOneProgram}
 use Rattle.session_layer.proofs.Places.{place_below}
 
 opened_stmt : (s : Stmt) (next : ℕ) (x : Node) (at : ℕ → core.Body) → IsNodeOf s next x → opened x at ≡ stmt_in s (at next)

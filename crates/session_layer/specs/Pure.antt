@@ -3,7 +3,7 @@ use Rattle.std.specs.Prelude.{◌≡◌, List, [], ◌∷◌, ◌++◌, map}
 use Rattle.core_language.specs.Programs as core
 use Rattle.core_language.specs.Resources as resource
 use Rattle.chan_syntax.specs.Reading.{term_of, bound_of, ref_of, res_of, equation_of, supply_of, pat_of, letter_of, proof_of}
-use Rattle.chan_syntax.specs.declared.surface_tree.Stmt.{Stmt, Let, Mul, Div, Rem, Call, Fork, ForkDo', Send1, Recv1, Send, Recv, Close, Wait, Choose, Split, Print, Row_of-Stmt, end_of-Stmt, more_of-Stmt}
+use Rattle.chan_syntax.specs.declared.surface_tree.Stmt.{Stmt, Let, Mul, Div, Rem, Call, Fork, Send1, Recv1, Split, Print, Row_of-Stmt, end_of-Stmt, more_of-Stmt}
 use Rattle.chan_syntax.specs.declared.surface_tree.Last.{Last, Ret, Tail, If', Match', Branch', Absurd, Loop', Again, Row_of-Last, end_of-Last, more_of-Last}
 use Rattle.chan_syntax.specs.declared.surface_tree.Block.{Block}
 use Rattle.chan_syntax.specs.declared.surface_tree.Body.{Body}
