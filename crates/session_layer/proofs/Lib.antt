@@ -4,3 +4,4 @@ pub mod CoreBlocks
 pub mod Grown
 pub mod Drafted
 pub mod Said
+pub mod Forms

@@ -1,5 +1,5 @@
 -- The program that a tree without sessions says, as trees of the core language.
-use Rattle.std.specs.Prelude.{◌≡◌, List, [], ◌∷◌, ◌++◌, map}
+use Rattle.std.specs.Prelude.{◌≡◌, List, [], ◌∷◌, ◌++◌, map, Option}
 use Rattle.core_language.specs.Programs as core
 use Rattle.core_language.specs.Resources as resource
 use Rattle.chan_syntax.specs.Reading.{term_of, bound_of, ref_of, res_of, equation_of, supply_of, pat_of, letter_of, proof_of}
@@ -14,6 +14,8 @@ use Rattle.chan_syntax.specs.declared.surface_tree.SurfaceProto.{SurfaceProto}
 use Rattle.chan_syntax.specs.declared.surface_tree.SurfaceFunc.{SurfaceFunc}
 use Rattle.chan_syntax.specs.declared.surface_tree.Surface.{Surface}
 use Rattle.core_programs.specs.declared.nodes.Parts.{Parts}
+use Rattle.form_faults.specs.declared.faults.Ill.{Ill}
+use Rattle.core_programs.specs.Form.{Passes}
 use Rattle.core_programs.specs.Bodies.{span_of, nowhere, param_of, program_of}
 use Rattle.session_layer.specs.Lowering.{IsLowered}
 
@@ -98,3 +100,7 @@ SaysTheTree = (surface : Surface) (parts : Parts) → IsLowered surface parts �
 -- whatever numbers its nodes have
 abbrev pub IsOneProgram : Type 0
 IsOneProgram = (surface : Surface) (parts others : Parts) → IsLowered surface parts → IsLowered surface others → program_of parts ≡ program_of others
+
+-- nor is the form of its parts another: they have the same fault, or none
+abbrev pub IsOneForm : Type 0
+IsOneForm = (surface : Surface) (parts others : Parts) → IsLowered surface parts → IsLowered surface others → (ill : Option Ill) → Passes parts ill → Passes others ill
