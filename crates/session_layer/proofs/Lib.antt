@@ -3,3 +3,5 @@ pub mod Roots
 pub mod CoreBlocks
 pub mod Grown
 pub mod Drafted
+pub mod Said
+pub mod Forms

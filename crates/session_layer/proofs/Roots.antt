@@ -1,12 +1,12 @@
 -- Nodes that are added one by one, each above the roots of the bodies that it names.
-use Rattle.std.proofs.Common.{◌≡◌, ℕ, zero, suc, ◌+◌, ◌<◌, ◌≤◌, ◌^◌, List, [], ◌∷◌, ◌++◌, length, map, Some, slice_get, refl, sym, ap, ◌∙◌, subst, arith, ◌⊎◌, inl, inr, ⊎_elim}
+use Rattle.std.proofs.Common.{◌≡◌, ℕ, ◌+◌, ◌<◌, ◌≤◌, ◌^◌, List, [], ◌∷◌, ◌++◌, length, map, Some, slice_get, refl, sym, ap, ◌∙◌, subst, arith, ◌⊎◌, inl, inr, ⊎_elim}
 use Rattle.std.proofs.lemmas.Bool.{cases_lt}
 use Rattle.std.proofs.lemmas.List.{length_push}
 use Rattle.core_programs.specs.declared.nodes.Node.{Node}
 use Rattle.core_programs.specs.declared.nodes.Func.{Func}
 use Rattle.core_programs.specs.declared.nodes.Parts.{Parts}
-use Rattle.core_programs.specs.Formed.{nexts, LeadBelow, Leads, Reaches, IsNumbered}
-use Rattle.session_layer.specs.Rooted.{Climbs, IsClimbedOnce, Falls, IsRooted, Adds}
+use Rattle.core_programs.specs.Formed.{nexts, Leads, IsNumbered}
+use Rattle.session_layer.specs.Rooted.{Climbs, IsClimbedOnce, Falls, IsRooted}
 use Rattle.session_layer.proofs.Places.{place_below, at_left, at_right, at_end, among_both, among_pushed, at_mapped, map_at}
 
 -- ---- walks go down

@@ -1,5 +1,5 @@
 -- For the proof alone: what is kept while declarations are lowered one by one.
-use Rattle.std.specs.Prelude.{ℕ, List, ◌∷◌, ◌++◌, map}
+use Rattle.std.specs.Prelude.{List, ◌∷◌, ◌++◌, map}
 use Rattle.chan_syntax.specs.declared.surface_tree.Decl.{Decl}
 use Rattle.chan_syntax.specs.declared.resources.Proto.{Proto}
 use Rattle.core_programs.specs.declared.nodes.Node.{Node}

@@ -2,3 +2,4 @@ pub mod Core
 pub mod Lowering
 pub mod Rooted
 pub mod Drafts
+pub mod Pure

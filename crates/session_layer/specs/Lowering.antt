@@ -1,6 +1,6 @@
 -- The core program of a tree whose forms are all of the core language.
 use Rattle.std.specs.Prelude.{◌≡◌, ℕ, List, [], ◌∷◌, Some, slice_get}
-use Rattle.chan_syntax.specs.declared.surface_tree.Stmt.{Stmt, Let, Mul, Div, Rem, Call, Fork, ForkDo', Send1, Recv1, Send, Recv, Close, Wait, Choose, Split, Print, Row_of-Stmt, end_of-Stmt, more_of-Stmt}
+use Rattle.chan_syntax.specs.declared.surface_tree.Stmt.{Stmt, Let, Mul, Div, Rem, Call, Fork, Send1, Recv1, Split, Print, Row_of-Stmt, end_of-Stmt, more_of-Stmt}
 use Rattle.chan_syntax.specs.declared.surface_tree.Last.{Last, Ret, Tail, If', Match', Branch', Absurd, Loop', Again, Row_of-Last, end_of-Last, more_of-Last}
 use Rattle.chan_syntax.specs.declared.surface_tree.Block.{Block}
 use Rattle.chan_syntax.specs.declared.surface_tree.Body.TheVariants as body

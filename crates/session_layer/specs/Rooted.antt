@@ -3,7 +3,7 @@ use Rattle.std.specs.Prelude.{◌≡◌, ℕ, ◌<◌, ◌^◌, List, [], ◌∷
 use Rattle.core_programs.specs.declared.nodes.Node.{Node}
 use Rattle.chan_syntax.specs.declared.surface_tree.Last.{Last}
 use Rattle.chan_syntax.specs.declared.surface_tree.Block.{Block}
-use Rattle.core_programs.specs.Formed.{nexts, LeadBelow, Leads}
+use Rattle.core_programs.specs.Formed.{LeadBelow, Leads}
 use Rattle.session_layer.specs.Lowering.{EndsAt, IsBodyAt}
 
 -- the turns lead to the number from the root at an index

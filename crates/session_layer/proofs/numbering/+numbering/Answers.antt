@@ -1,4 +1,4 @@
-use Rattle.std.proofs.Common.{rules, ◌≡◌, ◌∷◌, [], true, ap, sym, subst, ◌∙◌}
+use Rattle.std.proofs.Common.{rules, ap, sym, subst, ◌∙◌}
 use Rattle.std.specs.List.{list_all}
 use Rattle.chan_syntax.specs.declared.surface_tree.Last.{the_lemmas}
 use Rattle.session_layer.specs.Core.{is_core_stmt, is_core_last, is_core_block}

@@ -1,4 +1,4 @@
-use Rattle.std.proofs.Common.{rules, ◌≡◌, ◌∷◌, [], ◌+◌, ◌-◌, drop, ap, sym, subst, ◌∙◌, arith}
+use Rattle.std.proofs.Common.{◌≡◌, ◌∷◌, [], ◌+◌, ◌-◌, drop, sym, subst, arith}
 use Rattle.session_layer.specs.Lowering.{StmtsAt}
 use Rattle.session_layer.specs.Rooted.{Adds}
 use Rattle.session_layer.proofs.Grown.{added_before, names_next, stmts_before}
