@@ -1,5 +1,3 @@
-pub mod Depths
-pub mod ReadValues
 pub mod Weighing
 pub mod ActKinds
 pub mod Keeping

@@ -1,3 +1,4 @@
+pub mod ValueCode
 pub mod Reading
 pub mod Troubles
 pub mod Kinds

@@ -11,7 +11,8 @@ use Rattle.core_language.specs.Acts.{Act, act_of}
 use Rattle.core_programs.specs.declared.nodes.Node.{Node}
 use Rattle.core_programs.specs.declared.nodes.Parts.{Parts}
 use Rattle.core_programs.specs.Bodies.{rest, program_of}
-use Rattle.machine_tasks.specs.declared.values.Value.{Value, Int, Unit, Pair', Left', Right', End, Row_of-Value, end_of-Value, more_of-Value}
+use Rattle.machine_tasks.specs.declared.values.Value.{Value}
+use Rattle.machine_tasks.specs.declared.values.Value.TheVariants as value
 use Rattle.machine_tasks.specs.declared.tasks.Bind.{Bind}
 use Rattle.machine_tasks.specs.declared.tasks.Frame.{Frame}
 use Rattle.machine_tasks.specs.declared.tasks.Task.{Task}
@@ -23,19 +24,13 @@ use Rattle.machine_tasks.specs.Fits.{FramesFit}
 
 -- ---- values
 
-abbrev mutual
-  pub value_as : Value → core.Value
-  value_as (Int number) = core.Int number
-  value_as Unit = core.Unit
-  value_as (Pair' _ first _ second) = core.Pair (value_in first) (value_in second)
-  value_as (Left' _ value) = core.Left (value_in value)
-  value_as (Right' _ value) = core.Right (value_in value)
-  value_as (End channel) = core.End channel.name
-
-  -- what a box holds: a row of one value
-  pub value_in : {m : _} → Row_of-Value m → core.Value
-  value_in end_of-Value = core.Unit
-  value_in (more_of-Value value rest) = value_as value
+abbrev pub value_as : Value → core.Value
+value_as (value.Int number) = core.Int number
+value_as value.Unit = core.Unit
+value_as (value.Pair first second) = core.Pair first second
+value_as (value.Left part) = core.Left part
+value_as (value.Right part) = core.Right part
+value_as (value.End channel) = core.End channel.name
 
 -- ---- reasons
 

@@ -19,4 +19,4 @@ pub use acts::Act;
 pub use sharing::{Offspring, Parcel, Sending, Slot, Twins};
 pub use stops::{Halt, StuckWhy};
 pub use tasks::{Bind, Binds, Frame, Frames, Task, Tasks};
-pub use values::{Channel, Value};
+pub use values::{Channel, Shared, Value};

@@ -249,7 +249,6 @@ enum Side {
     Right(Value),
 }
 
-#[tactic(auto, using(crate::proofs::ReadValues::value_left, crate::proofs::ReadValues::value_right))]
 fn side_of(alloc: Global, value: Option<&Value>) -> Result<Side, Memory>
     ensures { IfOk result (λ s. option_map (λ v. value_as v.now) value.entry ≡ Some (side_value s)) }
 {

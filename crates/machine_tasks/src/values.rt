@@ -4,8 +4,9 @@ ghost use Rattle.core_language.specs.Values.{Pair, Left, Right, depth};
 ghost use Rattle.machine_tasks.specs.Reading.{value_as};
 
 use chan_base::{Memory, Name, Number};
-use sqlite_items::Boxed;
 use std::alloc::Global;
+use std::marker::Model;
+use std::sync::Arc;
 
 pub(crate) type Values = Vec<Value>;
 
@@ -19,39 +20,100 @@ pub struct Channel {
     pub cell: Number,
 }
 
+/// A value. Copies share its parts.
+#[cycle(value)]
 #[derive(Drop)]
 pub enum Value {
     Int(i64),
     Unit,
-    Pair(Boxed<Value>, Boxed<Value>),
-    Left(Boxed<Value>),
-    Right(Boxed<Value>),
+    Pair(Shared, Shared),
+    Left(Shared),
+    Right(Shared),
     End(Channel),
 }
 
+/// A part of values, with its depth, so that this needn't be counted again.
+#[cycle(value)]
+#[derive(Drop)]
+pub struct Shared {
+    value: Arc<Value, Global>,
+    depth: usize,
+}
+
+impl Model for Shared {
+    ghost use Rattle.std.specs.Prelude.{◌≡◌, min};
+    ghost use Rattle.core_language.specs.Values as core;
+    ghost use Rattle.machine_tasks.specs.ValueCode.{value_code};
+
+    ghost Value = { core.Value };
+
+    ghost coded = { value_code };
+
+    ghost use Rattle.machine_tasks.specs.Reading.{value_as};
+
+    ghost view = { λ part. value_as part.value.value };
+
+    ghost invariant = { λ part. part.depth ≡ min (core.depth (value_as part.value.value)) 257 };
+
+    ghost size = { core.depth };
+
+    ghost use Rattle.std.proofs.Common.{arith};
+
+    ghost size_decreases = { λ part holds. Prim.grind arith };
+}
+
+impl Shared {
+    fn new(alloc: Global, value: Value) -> Result<Shared, Memory>
+        ensures { IfOk result (λ part. part ≡ value_as value) }
+    {
+        let depth = value.depth();
+        let value = Arc::new(alloc, value)?;
+        Ok(Shared { value, depth })
+    }
+
+    pub(crate) fn get(&self) -> &Value
+        ensures { value_as result.now ≡ self.now }
+    {
+        &self.value
+    }
+
+    fn copy(&self) -> Result<Shared, Memory>
+        ensures { IfOk result (λ copy. copy ≡ self.now) }
+    {
+        let value = Arc::try_clone(&self.value)?;
+        Ok(Shared {
+            value,
+            depth: self.depth,
+        })
+    }
+
+    fn depth(&self) -> usize
+        ensures { result ≡ min (depth self.now) 257 }
+    {
+        self.depth
+    }
+}
+
 impl Value {
-    #[tactic(auto, using(crate::proofs::ReadValues::value_pair))]
     pub(crate) fn pair(alloc: Global, first: Value, second: Value) -> Result<Value, Memory>
         ensures { IfOk result (λ value. value_as value ≡ Pair (value_as first) (value_as second)) }
     {
-        let first = Boxed::new(alloc, first)?;
-        let second = Boxed::new(alloc, second)?;
+        let first = Shared::new(alloc, first)?;
+        let second = Shared::new(alloc, second)?;
         Ok(Value::Pair(first, second))
     }
 
-    #[tactic(auto, using(crate::proofs::ReadValues::value_left))]
     pub(crate) fn left(alloc: Global, value: Value) -> Result<Value, Memory>
         ensures { IfOk result (λ made. value_as made ≡ Left (value_as value)) }
     {
-        let value = Boxed::new(alloc, value)?;
+        let value = Shared::new(alloc, value)?;
         Ok(Value::Left(value))
     }
 
-    #[tactic(auto, using(crate::proofs::ReadValues::value_right))]
     pub(crate) fn right(alloc: Global, value: Value) -> Result<Value, Memory>
         ensures { IfOk result (λ made. value_as made ≡ Right (value_as value)) }
     {
-        let value = Boxed::new(alloc, value)?;
+        let value = Shared::new(alloc, value)?;
         Ok(Value::Right(value))
     }
 
@@ -62,16 +124,16 @@ impl Value {
             Value::Int(number) => Ok(Value::Int(*number)),
             Value::Unit => Ok(Value::Unit),
             Value::Pair(first, second) => {
-                let first = Boxed::new(alloc, first.get().copy(alloc)?)?;
-                let second = Boxed::new(alloc, second.get().copy(alloc)?)?;
+                let first = first.copy()?;
+                let second = second.copy()?;
                 Ok(Value::Pair(first, second))
             }
             Value::Left(value) => {
-                let value = Boxed::new(alloc, value.get().copy(alloc)?)?;
+                let value = value.copy()?;
                 Ok(Value::Left(value))
             }
             Value::Right(value) => {
-                let value = Boxed::new(alloc, value.get().copy(alloc)?)?;
+                let value = value.copy()?;
                 Ok(Value::Right(value))
             }
             Value::End(channel) => {
@@ -89,9 +151,9 @@ impl Value {
         match self {
             Value::Int(_) => 0,
             Value::Unit => 0,
-            Value::Pair(first, second) => deeper(first.get().depth().max(second.get().depth())),
-            Value::Left(value) => deeper(value.get().depth()),
-            Value::Right(value) => deeper(value.get().depth()),
+            Value::Pair(first, second) => deeper(first.depth().max(second.depth())),
+            Value::Left(value) => deeper(value.depth()),
+            Value::Right(value) => deeper(value.depth()),
             Value::End(_) => 0,
         }
     }
