@@ -1,5 +1,5 @@
 //! Rows under `fmt`.
-use crate::answers::answer;
+use row_answers::answer;
 use std::test::Fail;
 
 const HEAD: &[u8] = b"fn main() -> unit { ret ";

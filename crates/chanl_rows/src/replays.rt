@@ -1,5 +1,5 @@
 //! Rows under `replay`.
-use crate::answers::{answer, answer_with_faults};
+use row_answers::{answer, answer_with_faults};
 use std::test::Fail;
 
 const SEVEN: &[u8] = b"fn main() -> unit { print 7; ret () }\n";

@@ -1,5 +1,5 @@
 //! Small texts under `fmt`: each production once, and the ways in which it can go wrong first.
-use crate::answers::answer;
+use row_answers::answer;
 use std::alloc::Global;
 use std::test::Fail;
 

@@ -1,5 +1,5 @@
 //! The worked programs under `fmt`.
-use crate::answers::answer;
+use row_answers::answer;
 use std::test::Fail;
 
 /// Programs, each with what it shows.

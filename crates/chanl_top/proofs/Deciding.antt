@@ -1,8 +1,14 @@
 -- The cases of the verdict, and what reading says of the bytes that were left.
-use Rattle.std.proofs.Common.{◌≡◌, ℕ, ◌+◌, ◌<◌, ◌≤◌, List, ◌++◌, length, codes, Option, Some, None, sym, ap, ◌∙◌, subst, arith, inl, inr, append-nil, length-append}
+use Rattle.std.proofs.Common.{◌≡◌, ℕ, true, ◌+◌, ◌<◌, ◌≤◌, List, ◌++◌, length, codes, Option, Some, None, sym, ap, ◌∙◌, subst, arith, inl, inr, append-nil, length-append}
 use Rattle.std.specs.Io.KnownBytes.{Consumes, IsAtEnd, Appends}
 use Rattle.core_language.specs.Programs.{Program}
+use Rattle.core_programs.specs.declared.nodes.Parts.{Parts}
 use Rattle.core_programs.specs.Bodies.{program_of}
+use Rattle.core_programs.specs.Form.{HasForm}
+use Rattle.session_layer.specs.Core.{is_core}
+use Rattle.session_layer.specs.Lowering.{IsLowered}
+use Rattle.session_layer.specs.Pure.{program_in}
+use Rattle.session_layer.proofs.Said.{says_the_tree}
 use Rattle.core_language.specs.Rounds.{Entry, run_of}
 use Rattle.core_language.specs.Endings.{Ending, ending_of}
 use Rattle.core_language.specs.Endings as ending
@@ -54,7 +60,7 @@ settled_fmt text v (inr (line, unread, is)) = subst (λ (u : Verdict). IsSettled
 
 settled_tree : (tree : Surface) (rounds : ℕ) (v : Verdict) → IsTreeVerdict tree rounds v → IsSettled v.status
 settled_tree tree rounds v (inl (core, (parts, lowered, inl (form, is)))) =
-    subst (λ (u : Verdict). IsSettled u.status) (sym is) (settled_ending (ending_of (program_of parts) (run_of (program_of parts) rounds).config))
+    subst (λ (u : Verdict). IsSettled u.status) (sym is) (settled_ending (ending_of (program_in tree) (run_of (program_in tree) rounds).config))
 settled_tree tree rounds v (inl (core, (parts, lowered, inr (ill, fault, is)))) = subst (λ (u : Verdict). IsSettled u.status) (sym is) tt
 settled_tree tree rounds v (inr (session, is)) = subst (λ (u : Verdict). IsSettled u.status) (sym is) tt
 
@@ -76,6 +82,11 @@ run_verdict program rounds entries e s output are ends is writes =
     let settled : s ≡ (replayed program rounds).status = is ∙ ap ending_status ends in
     let written : output ≡ (replayed program rounds).output = writes ∙ ap (λ xs. run_text xs e) are ∙ ap (run_text (run_of program rounds).entries) ends in
     λ i. record { status = settled i; output = written i }
+
+-- the run of the parts to which a tree was lowered
+pub tree_run : (tree : Surface) (parts : Parts) (rounds : ℕ) (v : Verdict) → is_core tree ≡ true → IsLowered tree parts → HasForm parts → v ≡ replayed (program_of parts) rounds
+    → IsTreeVerdict tree rounds v
+tree_run tree parts rounds v core lowered form is = inl (core, (parts, lowered, inl (form, is ∙ ap (λ p. replayed p rounds) (says_the_tree tree parts lowered))))
 
 pub few : (words : List (List ℕ)) (command : Command) → Admits words command → AreFew command
 few words command.Fmt admitted = tt

@@ -11,10 +11,10 @@ use Rattle.chanl_lines.specs.Lines.{usage, refused, refused_at, ill_line, run_te
 use Rattle.chan_syntax.specs.declared.surface_tree.Surface.{Surface}
 use Rattle.form_faults.specs.declared.faults.Ill.{Ill}
 use Rattle.core_programs.specs.declared.nodes.Parts.{Parts}
-use Rattle.core_programs.specs.Bodies.{program_of}
 use Rattle.core_programs.specs.Form.{HasForm, IsFault}
 use Rattle.session_layer.specs.Core.{is_core}
 use Rattle.session_layer.specs.Lowering.{IsLowered}
+use Rattle.session_layer.specs.Pure.{program_in}
 use Rattle.text_tokens.specs.Text.{Token, HasTokens, Fault, bad_byte, bad_token, number_too_large, IsFirstFault}
 use Rattle.surface_grammar.specs.Language.{Derives}
 use Rattle.surface_spelling.specs.Spelling.{spelling}
@@ -96,11 +96,11 @@ IsFmtVerdict text verdict =
     ((tree : Surface) × ReadsAs text tree × (verdict ≡ record { status = status.Done; output = spelling tree }))
     ⊎ ((line : List ℕ) × IsUnread text line × (verdict ≡ line_refusal line))
 
--- the run of the program to which the tree is lowered, or the first fault of its form
+-- the run of the program that the tree says, or the first fault of its form, however its nodes are numbered
 abbrev pub IsRunVerdict : Surface → ℕ → Verdict → Type 0
 IsRunVerdict tree rounds verdict =
     (parts : Parts) × IsLowered tree parts
-    × ((HasForm parts × (verdict ≡ replayed (program_of parts) rounds)) ⊎ ((ill : Ill) × IsFault parts ill × (verdict ≡ line_refusal (ill_line ill))))
+    × ((HasForm parts × (verdict ≡ replayed (program_in tree) rounds)) ⊎ ((ill : Ill) × IsFault parts ill × (verdict ≡ line_refusal (ill_line ill))))
 
 -- trees with sessions can't be run yet
 abbrev pub IsTreeVerdict : Surface → ℕ → Verdict → Type 0
