@@ -6,3 +6,5 @@ pub mod Growing
 pub mod Walks
 pub mod Patterns
 pub mod Verdicts
+pub mod FirstNamed
+pub mod Divisors

@@ -6,13 +6,13 @@ use Rattle.form_faults.specs.declared.sorts.Known.{Known}
 use Rattle.form_faults.specs.declared.signatures.Signature.{Signature}
 use Rattle.form_faults.specs.Faults.{least}
 use Rattle.form_faults.specs.Scopes.{bind_all, twice_all}
-use Rattle.form_faults.proofs.Firsts.{least-nil, least-append, first_rules}
+use Rattle.form_faults.proofs.Firsts.{least-nil, least-append}
 use Rattle.form_faults.proofs.Binders.{all-long, all-front, bound_cut}
 use Rattle.core_programs.specs.declared.nodes.Node.{Node}
 use Rattle.core_programs.specs.declared.nodes.Parts.{Parts}
 use Rattle.core_programs.specs.declared.walking.Later.{Later}
 use Rattle.core_programs.specs.Formed.{nexts, LeadBelow, IsNumbered}
-use Rattle.core_programs.specs.Trees.{Tree, Nothing, Grown, at_number, grown, tree}
+use Rattle.core_programs.specs.Trees.{Tree, Nothing, Grown, at_number, tree}
 use Rattle.core_programs.specs.Passes.{operand_faults, first_binders, second_binders, body_faults}
 use Rattle.core_programs.proofs.Growing.{tree_grown}
 

@@ -1,5 +1,9 @@
 -- The program that its parts make: numbered nodes read as trees.
-use Rattle.std.specs.Prelude.{ℕ, zero, suc, if◌then◌else◌, List, [], ◌∷◌, map, length, Option, Some, None, slice_get}
+use Rattle.std.specs.Prelude.{◌≡◌, ℕ, zero, suc, if◌then◌else◌, List, [], ◌∷◌, map, length, Option, Some, None, slice_get}
+use Rattle.std.specs.Ordering.{nat_cmp}
+use Rattle.std.specs.Cmp.Lexicographic.{slice_cmp}
+use Rattle.std.specs.Option.{option_and_then}
+use Rattle.std.specs.BTreeMap.{BTreeMap, get}
 use Rattle.core_language.specs.Names.{Ident, same}
 use Rattle.core_language.specs.Operands as operand
 use Rattle.core_language.specs.Programs as core
@@ -76,3 +80,7 @@ program_of parts = record { protos = map proto_of parts.protos; funcs = map (fun
 abbrev pub func_named : Ident → List Func → Option Func
 func_named name [] = None
 func_named name (f ∷ fs) = if same f.name name then Some f else func_named name fs
+
+-- the index leads to the first function with each name
+abbrev pub LeadsToFirst : List Func → BTreeMap Ident ℕ → Type 0
+LeadsToFirst funcs index = (name : Ident) → option_and_then (slice_get funcs) (get (slice_cmp nat_cmp) index name) ≡ func_named name funcs

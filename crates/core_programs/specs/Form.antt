@@ -7,6 +7,9 @@ use Rattle.form_faults.specs.declared.faults.Ill.{Ill}
 use Rattle.form_faults.specs.Faults.{IsFirst}
 use Rattle.protocol_guard.specs.Guards.{IsGuarded, IsFirstCycle, graph_of, names_on}
 use Rattle.core_programs.specs.declared.nodes.Parts.{Parts}
+use Rattle.core_programs.specs.declared.faults.BuildFault.{BuildFault}
+use Rattle.core_programs.specs.declared.faults.BuildFault.TheVariants as fault
+use Rattle.core_programs.specs.Formed.{IsNumbered}
 use Rattle.core_programs.specs.Passes.{twice_faults, name_faults, count_faults, main_faults}
 
 -- ---- pass 4: Unguarded, at the name of the cycle's first protocol
@@ -46,3 +49,15 @@ HasForm parts = Passes parts None
 -- the first fault of the form
 abbrev pub IsFault : Parts → Ill → Type 0
 IsFault parts ill = Passes parts (Some ill)
+
+-- ---- programs
+
+-- numbers that lead one way to each node, and no fault of form
+pub record IsFormed (parts : Parts) : Type 0 where
+  pub numbered : IsNumbered parts
+  pub form : HasForm parts
+
+-- the first fault of the form, unless memory failed
+abbrev pub IsBuildFault : Parts → BuildFault → Type 0
+IsBuildFault parts (fault.Ill ill) = IsFault parts ill
+IsBuildFault parts fault.Memory = Unit {0}

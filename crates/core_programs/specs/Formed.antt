@@ -56,7 +56,3 @@ abbrev pub HasDivisor : Node → Type 0
 HasDivisor (node.Div name name_at term divisor divisor_at next span) = 0 < divisor
 HasDivisor (node.Rem name name_at term divisor divisor_at next span) = 0 < divisor
 HasDivisor other = Unit {0}
-
-pub record IsFormed (parts : Parts) : Type 0 where
-  pub numbered : IsNumbered parts
-  pub divisors : (n : ℕ) (x : Node) → slice_get parts.nodes n ≡ Some x → HasDivisor x

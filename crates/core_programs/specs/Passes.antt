@@ -5,7 +5,6 @@ use Rattle.core_language.specs.Names.{Ident, same}
 use Rattle.chan_syntax.specs.declared.identifiers.Span.{Span}
 use Rattle.chan_syntax.specs.declared.linear.Bound.{Bound}
 use Rattle.chan_syntax.specs.declared.resources.Shape.{Shape, Unit, Int, End, Pair', Sum'}
-use Rattle.chan_syntax.specs.declared.resources.Res.{Res}
 use Rattle.chan_syntax.specs.declared.resources.Proto.{Proto}
 use Rattle.chan_syntax.specs.declared.operands.Supply.{Supply}
 use Rattle.chan_syntax.specs.declared.operands.Proof.{Proof}
@@ -16,7 +15,7 @@ use Rattle.form_faults.specs.declared.sorts.Naming.TheVariants as naming
 use Rattle.form_faults.specs.declared.sorts.Known.{Known}
 use Rattle.form_faults.specs.declared.signatures.Signature.{Signature}
 use Rattle.form_faults.specs.Faults.{past, unless, at_span}
-use Rattle.form_faults.specs.Scopes.{unscoped, Binder, binders, bind_all, twice_all}
+use Rattle.form_faults.specs.Scopes.{unscoped, Binder, bind_all, twice_all}
 use Rattle.form_faults.specs.Terms.{term_faults, use_faults, ref_faults}
 use Rattle.form_faults.specs.Resources.{proto_faults, header_scope, header_faults}
 use Rattle.form_faults.specs.Operands.{supply_faults, supplies_faults, proof_faults, path_faults, pat_binders}

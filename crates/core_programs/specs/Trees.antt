@@ -1,5 +1,5 @@
 -- Numbered nodes as trees that keep the spans of their names.
-use Rattle.std.specs.Prelude.{ℕ, zero, suc, length, List, [], ◌∷◌, Option, Some, None, slice_get}
+use Rattle.std.specs.Prelude.{ℕ, zero, suc, length, List, Option, Some, None, slice_get}
 use Rattle.core_programs.specs.declared.nodes.Node.{Node}
 use Rattle.core_programs.specs.Formed.{nexts}
 

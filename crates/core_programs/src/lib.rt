@@ -2,7 +2,9 @@
 #![tactic(auto)]
 
 mod bodies;
+mod faults;
 mod forms;
+mod indexes;
 mod mains;
 mod nodes;
 mod passes;
@@ -10,7 +12,8 @@ mod tables;
 mod walking;
 mod wellformed;
 
+pub use faults::BuildFault;
 pub use form_faults::{Ill, IllKind};
 pub use forms::first_fault;
 pub use nodes::{Func, Funcs, Node, Nodes, Parts};
-pub use wellformed::{BuildFault, Program};
+pub use wellformed::Program;

@@ -1,23 +1,24 @@
 //! Programs that are well formed.
-ghost use Rattle.std.specs.Prelude.{◌≡◌, ◌<◌, length, IfSome, IfOk, OnErr, IsErrOf};
+ghost use Rattle.std.specs.Prelude.{◌≡◌, ◌<◌, codes, length, IfSome, IfOk, IfErr};
 ghost use Rattle.std.specs.Option.{option_copied};
 ghost use Rattle.core_programs.specs.Bodies.{opened, rest, func_named};
-ghost use Rattle.core_programs.specs.Formed.{IsFormed, HasDivisor, LeadBelow};
+ghost use Rattle.core_programs.specs.Formed.{IsNumbered, HasDivisor, LeadBelow};
+ghost use Rattle.core_programs.specs.Form.{IsFormed, IsBuildFault, HasForm};
 
+use crate::faults::BuildFault;
+use crate::forms::first_fault;
+use crate::indexes::{find_indexed, index_funcs};
 use crate::nodes::{Func, Node, Parts};
-use form_faults::Ill;
+use chan_syntax::Ident;
+use std::alloc::Global;
+use std::collections::BTreeMap;
 use std::marker::Model;
-
-#[derive(Drop)]
-pub enum BuildFault {
-    Ill(Ill),
-    Memory,
-}
 
 /// Parts that are well formed. A program is seen as its parts.
 #[derive(Drop)]
 pub struct Program {
     parts: Parts,
+    places: BTreeMap<Ident, usize>,
 }
 
 impl Model for Program {
@@ -28,20 +29,28 @@ impl Model for Program {
 
     ghost coded = { whole.the_row.coded };
 
-    ghost use Rattle.core_programs.specs.Formed.{IsFormed};
+    ghost use Rattle.core_programs.specs.Bodies.{LeadsToFirst};
+    ghost use Rattle.core_programs.specs.Form.{IsFormed};
 
     ghost view = { λ p. p.parts };
 
-    ghost invariant = { λ p. IsFormed p.parts };
+    ghost invariant = { λ p. IsFormed p.parts × LeadsToFirst p.parts.funcs p.places };
 }
 
 impl Program {
-    pub fn build(parts: Parts) -> Result<Program, BuildFault>
-        requires { IsFormed parts }
-        ensures ok { IfOk result (λ program. program ≡ parts) }
-        ensures err { OnErr result (IsErrOf result BuildFault.Memory) }
+    /// Parts without a fault of form. The fault is the first one, pass by pass.
+    pub fn build(alloc: Global, parts: Parts) -> Result<Program, BuildFault>
+        requires { IsNumbered parts }
+        ensures ok { IfOk result (λ program. (program ≡ parts) × HasForm parts) }
+        ensures err { IfErr result (IsBuildFault parts) }
     {
-        Ok(Program { parts })
+        match first_fault(alloc, &parts)? {
+            Some(ill) => Err(BuildFault::Ill(ill)),
+            None => {
+                let places = index_funcs(alloc, parts.funcs.as_slice())?;
+                Ok(Program { parts, places })
+            }
+        }
     }
 
     pub fn parts(&self) -> &Parts
@@ -64,12 +73,21 @@ impl Program {
     }
 
     /// The function with this name.
-    pub fn func(&self, name: &[u8]) -> Option<&Func>
+    pub fn func(&self, name: &Ident) -> Option<&Func>
         ensures named { option_copied result ≡ func_named name.now self.now.funcs }
         ensures first { IfSome result (λ f. f.now.first < length self.now.nodes) }
     {
         let parts = self.parts();
-        find_func(parts.funcs.as_slice(), name)
+        find_indexed(parts.funcs.as_slice(), &self.places, name)
+    }
+
+    /// The function `main`.
+    pub fn main(&self) -> Option<&Func>
+        ensures named { option_copied result ≡ func_named (codes "main") self.now.funcs }
+        ensures first { IfSome result (λ f. f.now.first < length self.now.nodes) }
+    {
+        let parts = self.parts();
+        find_func(parts.funcs.as_slice(), b"main")
     }
 }
 

@@ -16,7 +16,7 @@ fn main_frames(alloc: Global, program: &Program) -> Result<Frames, Memory>
     ensures fits { IfOk result (λ frames. FramesFit program.now.nodes frames.items) }
 {
     let mut frames = Vec::new(alloc);
-    match program.func(b"main") {
+    match program.main() {
         Some(function) => {
             let binds = Vec::new(alloc);
             let node = function.first;

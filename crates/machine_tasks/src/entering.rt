@@ -40,7 +40,7 @@ pub(crate) fn enter(
     ensures entered { IfOk result (λ frame. (callers : List Caller) → entered (function_named func.now (program_of program.now).funcs) (map value_as values.items) callers ≡ above program.now.nodes frame callers) }
     ensures stands { IfOk result (λ frame. IfSome frame (λ f. f.node < length program.now.nodes)) }
 {
-    match program.func(func.as_slice()) {
+    match program.func(func) {
         Some(function) => {
             let mut binds = bind_params(alloc, function.params.as_slice(), values)?;
             keep(program, &mut binds, function.first);

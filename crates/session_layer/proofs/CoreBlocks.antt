@@ -57,3 +57,21 @@ unfolding is_core_last
 core_again vs q at = refl
 
 pub ruleset core_rules = (core_ret, core_tail, core_if, core_match, core_branch, core_absurd, core_loop, core_again)
+
+-- ---- what a block is made of
+
+pub this_core : (a b : Bool) → (a && b) ≡ true → a ≡ true
+this_core true b is = refl
+this_core false b is = cc
+
+pub other_core : (a b : Bool) → (a && b) ≡ true → b ≡ true
+other_core true b is = is
+other_core false b is = cc
+
+pub core_stmts : (b : Block) → is_core_block b ≡ true → list_all is_core_stmt b.stmts ≡ true
+unfolding is_core_block
+core_stmts b is = this_core (list_all is_core_stmt b.stmts) (is_core_last b.last) is
+
+pub core_last : (b : Block) → is_core_block b ≡ true → is_core_last b.last ≡ true
+unfolding is_core_block
+core_last b is = other_core (list_all is_core_stmt b.stmts) (is_core_last b.last) is

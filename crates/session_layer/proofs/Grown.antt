@@ -1,5 +1,5 @@
 -- Nodes that are added, and the bodies that stand on them.
-use Rattle.std.proofs.Common.{◌≡◌, ℕ, ◌+◌, ◌-◌, ◌<◌, ◌≤◌, List, [], ◌∷◌, ◌++◌, length, append-nil, append_assoc, Some, slice_get, get_or, drop, refl, sym, ap, ◌∙◌, subst, arith}
+use Rattle.std.proofs.Common.{◌≡◌, ℕ, ◌+◌, ◌<◌, ◌^◌, List, [], ◌∷◌, ◌++◌, length, append-nil, append_assoc, slice_get, get_or, drop, sym, ap, ◌∙◌, subst}
 use Rattle.std.proofs.lemmas.List.{at_drop_more}
 use denote.Hole.Carrier.{hidden}
 use mathlib.Core.Former.{this, list_count, list_put}
@@ -7,6 +7,8 @@ use mathlib.Core.List.{map}
 use Rattle.chan_syntax.specs.declared.identifiers.Span.{Span}
 use Rattle.chan_syntax.specs.declared.linear.Term.{Term}
 use Rattle.chan_syntax.specs.declared.operands.Pat.{Pat}
+use Rattle.chan_syntax.specs.declared.operands.Proof.{Proof}
+use Rattle.chan_syntax.specs.declared.operands.Supply.{Supply}
 use Rattle.chan_syntax.specs.declared.surface_tree.Stmt.{Stmt, Let, Mul, Div, Rem, Call, Fork, ForkDo', Send1, Recv1, Send, Recv, Close, Wait, Choose, Split, Print, Row_of-Stmt, end_of-Stmt, more_of-Stmt}
 use Rattle.chan_syntax.specs.declared.surface_tree.Last.{Last, Ret, Tail, If', Match', Branch', Absurd, Loop', Again, Row_of-Last, end_of-Last, more_of-Last}
 use Rattle.chan_syntax.specs.declared.surface_tree.Last.TheVariants as l
@@ -16,7 +18,7 @@ use Rattle.core_programs.specs.declared.nodes.Node.{Node}
 use Rattle.core_programs.specs.declared.nodes.Node.TheVariants as node
 use Rattle.core_programs.specs.Formed.{nexts}
 use Rattle.session_layer.specs.Lowering.{At, IsNodeOf, StmtsAt, RowAt, EndsAt, BoxedAt, IsBodyAt}
-use Rattle.session_layer.specs.Rooted.{IsRooted, Adds, AddsTwo}
+use Rattle.session_layer.specs.Rooted.{IsRooted, Adds, AddsTwo, Joins, JoinsIn}
 use Rattle.session_layer.proofs.Places.{place_below, at_left, at_end}
 use Rattle.session_layer.proofs.Roots.{grow}
 
@@ -26,30 +28,30 @@ pub nothing_added : (nodes : List Node) (last : ℕ) → Adds nodes nodes (last 
 nothing_added nodes last = record { more = []; longer = sym (append-nil nodes); rooted = λ front r. r }
 
 -- a node that names the root
-pub added_before : (before mid after : List Node) (old : List ℕ) (n : ℕ) (x : Node) → Adds before mid old n → after ≡ mid ++ x ∷ [] → nexts x ≡ n ∷ [] → Adds before after old (length mid)
-added_before before mid after old n x adds is names = record {
+pub added_before : (before mid after : List Node) (old : List ℕ) (n : ℕ) (x : Node) → Adds before mid old n → after ≡ mid ++ x ∷ [] → length after < 2 ^ 32 → nexts x ≡ n ∷ [] → Adds before after old (length mid)
+added_before before mid after old n x adds is few names = record {
   more = adds.more ++ x ∷ [];
   longer = is ∙ ap (λ ns. ns ++ x ∷ []) adds.longer ∙ append_assoc before adds.more (x ∷ []);
   rooted = λ front r. subst (λ ns. IsRooted ns (front ++ length mid ∷ [])) (sym is)
-      (grow mid front x (subst (λ ys. IsRooted mid (front ++ ys)) (sym names) (adds.rooted front r)));
+      (grow mid front x (subst (λ ys. IsRooted mid (front ++ ys)) (sym names) (adds.rooted front r)) (subst (λ ns. length ns < 2 ^ 32) is few));
 }
 
 -- a node that names none
-pub added_alone : (before after : List Node) (x : Node) → after ≡ before ++ x ∷ [] → nexts x ≡ [] → Adds before after [] (length before)
-added_alone before after x is names = record {
+pub added_alone : (before after : List Node) (x : Node) (n : ℕ) → n ≡ length before → after ≡ before ++ x ∷ [] → length after < 2 ^ 32 → nexts x ≡ [] → Adds before after [] n
+added_alone before after x n at is few names = record {
   more = x ∷ [];
   longer = is;
-  rooted = λ front r. subst (λ ns. IsRooted ns (front ++ length before ∷ [])) (sym is)
-      (grow before front x (subst (λ ys. IsRooted before (front ++ ys)) (sym names) r));
+  rooted = λ front r. subst (λ k. IsRooted after (front ++ k ∷ [])) (sym at) (subst (λ ns. IsRooted ns (front ++ length before ∷ [])) (sym is)
+      (grow before front x (subst (λ ys. IsRooted before (front ++ ys)) (sym names) r) (subst (λ ns. length ns < 2 ^ 32) is few)));
 }
 
 -- a node that names two roots
-pub added_above : (before mid after : List Node) (i j : ℕ) (x : Node) → AddsTwo before mid (i, j) → after ≡ mid ++ x ∷ [] → nexts x ≡ i ∷ j ∷ [] → Adds before after [] (length mid)
-added_above before mid after i j x adds is names = record {
+pub joins : (mid after : List Node) (p : ℕ × ℕ) (x : Node) (n : ℕ) → n ≡ length mid → after ≡ mid ++ x ∷ [] → length after < 2 ^ 32 → nexts x ≡ p.0 ∷ p.1 ∷ [] → Joins mid after p n
+joins mid after p x n at is few names before adds = record {
   more = adds.more ++ x ∷ [];
   longer = is ∙ ap (λ ns. ns ++ x ∷ []) adds.longer ∙ append_assoc before adds.more (x ∷ []);
-  rooted = λ front r. subst (λ ns. IsRooted ns (front ++ length mid ∷ [])) (sym is)
-      (grow mid front x (subst (λ ys. IsRooted mid (front ++ ys)) (sym names) (adds.rooted front (subst (IsRooted before) (append-nil front) r))));
+  rooted = λ front r. subst (λ k. IsRooted after (front ++ k ∷ [])) (sym at) (subst (λ ns. IsRooted ns (front ++ length mid ∷ [])) (sym is)
+      (grow mid front x (subst (λ ys. IsRooted mid (front ++ ys)) (sym names) (adds.rooted front (subst (IsRooted before) (append-nil front) r))) (subst (λ ns. length ns < 2 ^ 32) is few)));
 }
 
 -- one body and then another
@@ -131,20 +133,43 @@ pub kept_body : (nodes after more : List Node) (b : Block) (n : ℕ) → after �
 kept_body nodes after more b n longer (m, stmts, ends) =
     subst (λ ns. IsBodyAt ns b n) (sym longer) (m, kept_stmts nodes more b.stmts n m stmts, kept_last nodes more b.last m ends)
 
--- ---- lasts that hold blocks
+-- ---- what ends a block
 
 row_at : (nodes : List Node) (xs : List Stmt) (n m : ℕ) → StmtsAt nodes xs n m → RowAt nodes (back-the_row-Stmt (list_count (this {0}) (map ((this {0}).shape Stmt) xs) 0) (list_put (this {0}) Stmt xs 0 (tt {0}))) n m
 row_at nodes [] n m at = at
 row_at nodes (s ∷ ss) n m (x, next, is, of, rest) = (x, next, is, of, row_at nodes ss next m rest)
 
-pub ends_if : (nodes : List Node) (a b : Term) (this_block other : Block) (span : Span) (n i j : ℕ) → At nodes n (node.If a b i j span) → IsBodyAt nodes this_block i → IsBodyAt nodes other j
-    → EndsAt nodes (l.If a b this_block other span) n
-unfolding hidden hidden-the_row-Stmt-0 hidden-the_row-Last-1 EndsAt BoxedAt
-ends_if nodes a b this_block other span n i j at (k, stmts, ends) (m, stmts', ends') =
-    (i, j, k, m, at, row_at nodes this_block.stmts i k stmts, ends, row_at nodes other.stmts j m stmts', ends')
+-- the node that was added
+stands : (nodes after : List Node) (x : Node) (n : ℕ) → n ≡ length nodes → after ≡ nodes ++ x ∷ [] → At after n x
+stands nodes after x n at is = ap (λ ns. slice_get ns n) is ∙ (ap (slice_get (nodes ++ x ∷ [])) at ∙ at_end nodes x)
 
-pub ends_match : (nodes : List Node) (x : List ℕ) (xt : Span) (p : Pat) (this_block : Block) (q : Pat) (other : Block) (span : Span) (n i j : ℕ) → At nodes n (node.Match x xt p i q j span)
-    → IsBodyAt nodes this_block i → IsBodyAt nodes other j → EndsAt nodes (l.Match x xt p this_block q other span) n
+pub ends_ret : (nodes after : List Node) (v : Supply) (q : Proof) (span : Span) (n : ℕ) → n ≡ length nodes → after ≡ nodes ++ node.Ret v q span ∷ [] → EndsAt after (l.Ret v q span) n
+unfolding EndsAt
+ends_ret nodes after v q span n at is = stands nodes after (node.Ret v q span) n at is
+
+pub ends_tail : (nodes after : List Node) (f : List ℕ) (ft : Span) (vs : List Supply) (q : Proof) (span : Span) (n : ℕ) → n ≡ length nodes → after ≡ nodes ++ node.Tail f ft vs q span ∷ []
+    → EndsAt after (l.Tail f ft vs q span) n
+unfolding EndsAt
+ends_tail nodes after f ft vs q span n at is = stands nodes after (node.Tail f ft vs q span) n at is
+
+pub ends_absurd : (nodes after : List Node) (q : Proof) (span : Span) (n : ℕ) → n ≡ length nodes → after ≡ nodes ++ node.Absurd q span ∷ [] → EndsAt after (l.Absurd q span) n
+unfolding EndsAt
+ends_absurd nodes after q span n at is = stands nodes after (node.Absurd q span) n at is
+
+pub joins_if : (mid after : List Node) (a b : Term) (p : ℕ × ℕ) (span : Span) (n : ℕ) → n ≡ length mid → after ≡ mid ++ node.If a b p.0 p.1 span ∷ []
+    → JoinsIn (λ this_block other. l.If a b this_block other span) mid after p n
 unfolding hidden hidden-the_row-Stmt-0 hidden-the_row-Last-1 EndsAt BoxedAt
-ends_match nodes x xt p this_block q other span n i j at (k, stmts, ends) (m, stmts', ends') =
-    (i, j, k, m, at, row_at nodes this_block.stmts i k stmts, ends, row_at nodes other.stmts j m stmts', ends')
+joins_if mid after a b p span n at is this_block other first second =
+    let x = node.If a b p.0 p.1 span in
+    let (k, stmts, ends) = kept_body mid after (x ∷ []) this_block p.0 is first in
+    let (m, stmts', ends') = kept_body mid after (x ∷ []) other p.1 is second in
+    (p.0, p.1, k, m, stands mid after x n at is, row_at after this_block.stmts p.0 k stmts, ends, row_at after other.stmts p.1 m stmts', ends')
+
+pub joins_match : (mid after : List Node) (y : List ℕ) (yt : Span) (a b : Pat) (p : ℕ × ℕ) (span : Span) (n : ℕ) → n ≡ length mid → after ≡ mid ++ node.Match y yt a p.0 b p.1 span ∷ []
+    → JoinsIn (λ this_block other. l.Match y yt a this_block b other span) mid after p n
+unfolding hidden hidden-the_row-Stmt-0 hidden-the_row-Last-1 EndsAt BoxedAt
+joins_match mid after y yt a b p span n at is this_block other first second =
+    let x = node.Match y yt a p.0 b p.1 span in
+    let (k, stmts, ends) = kept_body mid after (x ∷ []) this_block p.0 is first in
+    let (m, stmts', ends') = kept_body mid after (x ∷ []) other p.1 is second in
+    (p.0, p.1, k, m, stands mid after x n at is, row_at after this_block.stmts p.0 k stmts, ends, row_at after other.stmts p.1 m stmts', ends')

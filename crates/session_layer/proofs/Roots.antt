@@ -1,12 +1,12 @@
 -- Nodes that are added one by one, each above the roots of the bodies that it names.
-use Rattle.std.proofs.Common.{◌≡◌, ℕ, zero, suc, ◌+◌, ◌<◌, ◌≤◌, ◌^◌, List, [], ◌∷◌, ◌++◌, length, map, Some, slice_get, refl, sym, ap, ◌∙◌, subst, arith, ◌⊎◌, inl, inr, ⊎_elim}
+use Rattle.std.proofs.Common.{◌≡◌, ℕ, ◌+◌, ◌<◌, ◌≤◌, ◌^◌, List, [], ◌∷◌, ◌++◌, length, map, Some, slice_get, refl, sym, ap, ◌∙◌, subst, arith, ◌⊎◌, inl, inr, ⊎_elim}
 use Rattle.std.proofs.lemmas.Bool.{cases_lt}
 use Rattle.std.proofs.lemmas.List.{length_push}
 use Rattle.core_programs.specs.declared.nodes.Node.{Node}
 use Rattle.core_programs.specs.declared.nodes.Func.{Func}
 use Rattle.core_programs.specs.declared.nodes.Parts.{Parts}
-use Rattle.core_programs.specs.Formed.{nexts, LeadBelow, Leads, Reaches, IsNumbered}
-use Rattle.session_layer.specs.Rooted.{Climbs, IsClimbedOnce, Falls, IsRooted, Adds}
+use Rattle.core_programs.specs.Formed.{nexts, Leads, IsNumbered}
+use Rattle.session_layer.specs.Rooted.{Climbs, IsClimbedOnce, Falls, IsRooted}
 use Rattle.session_layer.proofs.Places.{place_below, at_left, at_right, at_end, among_both, among_pushed, at_mapped, map_at}
 
 -- ---- walks go down
@@ -77,17 +77,27 @@ module _ (nodes : List Node) (front : List ℕ) (x : Node) (rooted : IsRooted no
   old_once : (n : ℕ) → n < length nodes → IsClimbedOnce (nodes ++ x ∷ []) (front ++ length nodes ∷ []) n
   old_once n lt =
       let (i, turns, climb, unique) = rooted.once n lt in ⊎_elim
-      (λ p. (i, turns, p.1, λ j others c. ⊎_elim
-      (λ q. unique j others q.1)
-      (λ q. let same = (unique (length front + q.0) q.1 q.4).0 in absurd (omega (arith, same, p.0)))
-      (descend j others n lt c)))
-      (λ p. (length front, p.0 ∷ turns, p.2, λ j others c. ⊎_elim
-      (λ q. let same = (unique j others q.1).0 in absurd (omega (arith, same, q.0, p.1)))
-      (λ q.
-      let one = unique (length front + q.0) q.1 q.4 in
-      let turn : q.0 ≡ p.0 = omega (arith, one.0, p.1) in
-      (q.2, q.3 ∙ ap (λ k. k ∷ q.1) turn ∙ ap (λ ts. p.0 ∷ ts) one.1))
-      (descend j others n lt c)))
+      (λ p. (
+        i,
+        turns,
+        p.1,
+        λ j others c. ⊎_elim
+            (λ q. unique j others q.1)
+            (λ q. let same = (unique (length front + q.0) q.1 q.4).0 in absurd (omega (arith, same, p.0)))
+            (descend j others n lt c),
+      ))
+      (λ p. (
+        length front,
+        p.0 ∷ turns,
+        p.2,
+        λ j others c. ⊎_elim
+            (λ q. let same = (unique j others q.1).0 in absurd (omega (arith, same, q.0, p.1)))
+            (λ q.
+            let one = unique (length front + q.0) q.1 q.4 in
+            let turn : q.0 ≡ p.0 = omega (arith, one.0, p.1) in
+            (q.2, q.3 ∙ ap (λ k. k ∷ q.1) turn ∙ ap (λ ts. p.0 ∷ ts) one.1))
+            (descend j others n lt c),
+      ))
       (ascend i turns n climb)
 
   top : (j : ℕ) (others : List ℕ) → j ≡ length front → Leads (nodes ++ x ∷ []) (length nodes) others (length nodes) → (j ≡ length front) × (others ≡ [])
@@ -99,14 +109,19 @@ module _ (nodes : List Node) (front : List ℕ) (x : Node) (rooted : IsRooted no
       absurd (omega (arith, lt, le))
 
   new_once : IsClimbedOnce (nodes ++ x ∷ []) (front ++ length nodes ∷ []) (length nodes)
-  new_once = (length front, [], (length nodes, at_end front (length nodes), refl), λ j others c. ⊎_elim
-      (λ p.
-      let old = before j c.0 p.0 p.1 in
-      let lt = rooted.within j c.0 old in
-      let le = down nodes c.0 (length nodes) others rooted.falls (back nodes x c.0 (length nodes) others rooted.falls lt c.2) in
-      absurd (omega (arith, lt, le)))
-      (λ p. top j others p.0 (subst (λ q. Leads (nodes ++ x ∷ []) q others (length nodes)) (sym p.1) c.2))
-      (among_pushed front (length nodes) j c.0 c.1))
+  new_once = (
+    length front,
+    [],
+    (length nodes, at_end front (length nodes), refl),
+    λ j others c. ⊎_elim
+        (λ p.
+        let old = before j c.0 p.0 p.1 in
+        let lt = rooted.within j c.0 old in
+        let le = down nodes c.0 (length nodes) others rooted.falls (back nodes x c.0 (length nodes) others rooted.falls lt c.2) in
+        absurd (omega (arith, lt, le)))
+        (λ p. top j others p.0 (subst (λ q. Leads (nodes ++ x ∷ []) q others (length nodes)) (sym p.1) c.2))
+        (among_pushed front (length nodes) j c.0 c.1),
+  )
 
   within_more : (i root : ℕ) → slice_get (front ++ length nodes ∷ []) i ≡ Some root → root < length (nodes ++ x ∷ [])
   within_more i root is =
@@ -133,11 +148,12 @@ module _ (nodes : List Node) (front : List ℕ) (x : Node) (rooted : IsRooted no
       (cases_lt n (length nodes))
 
   -- the node stands above the roots that it names
-  pub grow : IsRooted (nodes ++ x ∷ []) (front ++ length nodes ∷ [])
-  grow = record { within = within_more; falls = falls_more; once = once_more }
+  pub grow : length (nodes ++ x ∷ []) < 2 ^ 32 → IsRooted (nodes ++ x ∷ []) (front ++ length nodes ∷ [])
+  grow few = record { few = few; within = within_more; falls = falls_more; once = once_more }
 
 pub nothing_rooted : IsRooted [] []
 nothing_rooted = record {
+  few = omega arith;
   within = λ i root is. cc;
   falls = λ n x is. cc;
   once = λ n lt. absurd (omega (arith, lt));
@@ -145,9 +161,9 @@ nothing_rooted = record {
 
 -- ---- whole parts
 
-pub numbered : (parts : Parts) → length parts.nodes < 2 ^ 32 → IsRooted parts.nodes (map (λ f. f.first) parts.funcs) → IsNumbered parts
-numbered parts few rooted = record {
-  few = few;
+pub numbered : (parts : Parts) → IsRooted parts.nodes (map (λ f. f.first) parts.funcs) → IsNumbered parts
+numbered parts rooted = record {
+  few = rooted.few;
   firsts = λ f func is. rooted.within f func.first (map_at (λ (g : Func). g.first) parts.funcs f func is);
   follow = λ n x is k m at.
       let lt = rooted.falls n x is k m at in

@@ -1,3 +1,5 @@
 pub mod Core
 pub mod Lowering
 pub mod Rooted
+pub mod Drafts
+pub mod Pure

@@ -1,6 +1,6 @@
 -- The core program of a tree whose forms are all of the core language.
 use Rattle.std.specs.Prelude.{◌≡◌, ℕ, List, [], ◌∷◌, Some, slice_get}
-use Rattle.chan_syntax.specs.declared.surface_tree.Stmt.{Stmt, Let, Mul, Div, Rem, Call, Fork, ForkDo', Send1, Recv1, Send, Recv, Close, Wait, Choose, Split, Print, Row_of-Stmt, end_of-Stmt, more_of-Stmt}
+use Rattle.chan_syntax.specs.declared.surface_tree.Stmt.{Stmt, Let, Mul, Div, Rem, Call, Fork, Send1, Recv1, Split, Print, Row_of-Stmt, end_of-Stmt, more_of-Stmt}
 use Rattle.chan_syntax.specs.declared.surface_tree.Last.{Last, Ret, Tail, If', Match', Branch', Absurd, Loop', Again, Row_of-Last, end_of-Last, more_of-Last}
 use Rattle.chan_syntax.specs.declared.surface_tree.Block.{Block}
 use Rattle.chan_syntax.specs.declared.surface_tree.Body.TheVariants as body
@@ -15,6 +15,9 @@ use Rattle.core_programs.specs.declared.nodes.Node.{Node}
 use Rattle.core_programs.specs.declared.nodes.Node.TheVariants as node
 use Rattle.core_programs.specs.declared.nodes.Func.{Func}
 use Rattle.core_programs.specs.declared.nodes.Parts.{Parts}
+use Rattle.core_programs.specs.declared.faults.BuildFault.{BuildFault}
+use Rattle.core_programs.specs.declared.faults.BuildFault.TheVariants as fault
+use Rattle.core_programs.specs.Form.{IsFault}
 use Rattle.core_programs.specs.Formed.{IsNumbered}
 
 -- the node of a statement, where the node of this number follows
@@ -86,3 +89,8 @@ AreOf nodes (decl.Func f ∷ ds) protos funcs =
 pub record IsLowered (surface : Surface) (parts : Parts) : Type 0 where
   pub declared : AreOf parts.nodes surface.decls parts.protos parts.funcs
   pub numbered : IsNumbered parts
+
+-- the first fault of the form of its parts, unless memory failed
+abbrev pub IsFaultOf : Surface → BuildFault → Type 0
+IsFaultOf surface (fault.Ill ill) = (parts : Parts) × IsLowered surface parts × IsFault parts ill
+IsFaultOf surface fault.Memory = Unit {0}

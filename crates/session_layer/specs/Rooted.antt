@@ -1,7 +1,10 @@
 -- For the proof alone: numbers of nodes that are reached in one way while nodes are added.
-use Rattle.std.specs.Prelude.{◌≡◌, ℕ, ◌<◌, List, [], ◌∷◌, ◌++◌, length, Some, slice_get}
+use Rattle.std.specs.Prelude.{◌≡◌, ℕ, ◌<◌, ◌^◌, List, [], ◌∷◌, ◌++◌, length, Some, slice_get}
 use Rattle.core_programs.specs.declared.nodes.Node.{Node}
-use Rattle.core_programs.specs.Formed.{nexts, LeadBelow, Leads}
+use Rattle.chan_syntax.specs.declared.surface_tree.Last.{Last}
+use Rattle.chan_syntax.specs.declared.surface_tree.Block.{Block}
+use Rattle.core_programs.specs.Formed.{LeadBelow, Leads}
+use Rattle.session_layer.specs.Lowering.{EndsAt, IsBodyAt}
 
 -- the turns lead to the number from the root at an index
 abbrev pub Climbs : List Node → List ℕ → ℕ → List ℕ → ℕ → Type 0
@@ -18,6 +21,7 @@ Falls nodes = (n : ℕ) (x : Node) → slice_get nodes n ≡ Some x → LeadBelo
 
 -- Each root is the number of a node, each node names smaller numbers alone, and each number is reached in one way.
 pub record IsRooted (nodes : List Node) (roots : List ℕ) : Type 0 where
+  pub few : length nodes < 2 ^ 32
   pub within : (i root : ℕ) → slice_get roots i ≡ Some root → root < length nodes
   pub falls : Falls nodes
   pub once : (n : ℕ) → n < length nodes → IsClimbedOnce nodes roots n
@@ -33,3 +37,11 @@ pub record AddsTwo (before after : List Node) (p : ℕ × ℕ) : Type 0 where
   pub more : List Node
   pub longer : after ≡ before ++ more
   pub rooted : (front : List ℕ) → IsRooted before front → IsRooted after (front ++ p.0 ∷ p.1 ∷ [])
+
+-- A node was added that names two roots, and took their place.
+abbrev pub Joins : List Node → List Node → ℕ × ℕ → ℕ → Type 0
+Joins mid after p n = (before : List Node) → AddsTwo before mid p → Adds before after [] n
+
+-- It ends a block: its form has the two blocks whose bodies the roots are.
+abbrev pub JoinsIn : (Block → Block → Last) → List Node → List Node → ℕ × ℕ → ℕ → Type 0
+JoinsIn form mid after p n = (a b : Block) → IsBodyAt mid a p.0 → IsBodyAt mid b p.1 → EndsAt after (form a b) n

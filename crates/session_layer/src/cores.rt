@@ -71,5 +71,9 @@ fn is_core_decl(decl: &Decl) -> bool
 pub fn is_core(surface: &Surface) -> bool
     ensures { result ≡ spec.is_core surface.now }
 {
-    surface.decls.as_slice().iter().all(|decl| is_core_decl(decl))
+    surface
+        .decls
+        .as_slice()
+        .iter()
+        .all(|decl| is_core_decl(decl))
 }

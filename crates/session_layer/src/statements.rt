@@ -5,9 +5,7 @@ ghost use Rattle.session_layer.specs.Core.{is_core_stmt};
 ghost use Rattle.session_layer.specs.Lowering.{IsNodeOf};
 
 use chan_base::Memory;
-use chan_syntax::{
-    Ident, Pat, Path, Proof, Span, Stmt, Supplies, Term, copy_path, copy_supplies,
-};
+use chan_syntax::{Ident, Pat, Path, Proof, Span, Stmt, Supplies, Term, copy_path, copy_supplies};
 use core_programs::Node;
 use std::alloc::Global;
 

@@ -1,4 +1,4 @@
-use Rattle.std.proofs.Common.{◌≡◌, ℕ, ◌+◌, ◌<◌, List, [], ◌∷◌, ◌++◌, length, Some, None, slice_get, refl, sym, ap, ◌∙◌, subst, arith}
+use Rattle.std.proofs.Common.{◌≡◌, ◌+◌, ◌<◌, List, [], ◌∷◌, ◌++◌, length, refl, sym, subst, arith}
 use Rattle.form_faults.specs.Faults.{least}
 use Rattle.core_programs.specs.declared.nodes.Node.{Node}
 use Rattle.core_programs.specs.Trees.{tree, at_number}

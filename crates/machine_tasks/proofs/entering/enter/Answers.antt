@@ -15,16 +15,16 @@ returns-in_ok-binds-in-Some-clause-entered c = λ callers.
     let funcs = c.args.program.now.funcs in
     let f = c.in-Some.function.now in
     let vs = map value_as c.args.values.items in
-    let named : func_named c.args.func.now funcs ≡ Some f = ap (λ n. func_named n funcs) (sym c.as_slice.ensures) ∙ sym c.in-Some.ensures.named in
+    let named : func_named c.args.func.now funcs ≡ Some f = sym c.in-Some.ensures.named in
     let found : function_named c.args.func.now (map (function_of nodes) funcs) ≡ Some (function_of nodes f) = function_found nodes c.args.func.now funcs ∙ ap (option_map (function_of nodes)) named in
     ap (λ (o : Option Function). entered o vs callers) found
     ∙ ap (λ e. Running (rest nodes f.first) e callers)
-    (sym (c.keep.ensures ∙ ap (kept (rest nodes f.first)) (c.in_ok-binds-in-Some.ensures ∙ ap (λ (ps : List Param). params_env (map param_of ps) vs) c.as_slice-in-Some.ensures)))
+    (sym (c.keep.ensures ∙ ap (kept (rest nodes f.first)) (c.in_ok-binds-in-Some.ensures ∙ ap (λ (ps : List Param). params_env (map param_of ps) vs) c.as_slice.ensures)))
 
 pub returns-in-None-clause-entered : goal.returns-in-None-clause-entered
 returns-in-None-clause-entered c = λ callers.
     let nodes = c.args.program.now.nodes in
     let funcs = c.args.program.now.funcs in
     let vs = map value_as c.args.values.items in
-    let named : func_named c.args.func.now funcs ≡ None = ap (λ n. func_named n funcs) (sym c.as_slice.ensures) ∙ sym c.in-None.ensures.named in
+    let named : func_named c.args.func.now funcs ≡ None = sym c.in-None.ensures.named in
     ap (λ (o : Option Function). entered o vs callers) (function_found nodes c.args.func.now funcs ∙ ap (option_map (function_of nodes)) named)

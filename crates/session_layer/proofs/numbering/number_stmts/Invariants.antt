@@ -5,7 +5,7 @@ use Rattle.session_layer.proofs.numbering.number_stmts.Given as goal
 
 abbrev pub invariant-loop-left : goal.invariant-loop-left
 invariant-loop-left l =
-    (l.left ≤ length l.stmts) × Adds l.initial.nodes.items l.nodes.items (l.last ∷ []) l.next × StmtsAt l.nodes.items (drop l.left l.stmts) l.next l.last
+    (l.left ≤ length l.stmts) × Adds l.initial.nodes l.nodes (l.last ∷ []) l.next × StmtsAt l.nodes (drop l.left l.stmts) l.next l.last
 
 abbrev pub decreases-loop-left : goal.decreases-loop-left
 decreases-loop-left l = l.left

@@ -1,3 +1,4 @@
+use Rattle.core_programs.proofs.Divisors.{divisor_at}
 use Rattle.core_programs.proofs.Forests.{read_at, rest_opened}
 use Rattle.core_programs.proofs.wellformed.Program.node.Goals as goal
 
@@ -13,5 +14,5 @@ returns-clause-leads c =
 
 pub returns-clause-divisor : goal.returns-clause-divisor
 returns-clause-divisor c =
-    c.parts-parts.ensures.formed.divisors _ _
+    divisor_at c.args.self.now _ _ c.parts-parts.ensures.formed c.requires
     (read_at c.args.self.now _ _ _ _ c.as_slice-nodes.ensures c.parts-parts.ensures.parts c.requires c.index-nodes-number.is)

@@ -1,0 +1,17 @@
+use Rattle.std.proofs.Common.{◌≡◌, ◌+◌, ◌-◌, sym, ap, ◌∙◌, subst, arith}
+use Rattle.core_programs.specs.declared.nodes.Func.{Func}
+use Rattle.core_programs.proofs.FirstNamed.{LeadsFrom, leads_nowhere, leads_before}
+use Rattle.core_programs.proofs.indexes.index_funcs.Goals as goal
+
+pub loop-left-init : goal.loop-left-init
+loop-left-init c = (omega arith, leads_nowhere c.args.funcs.now c.new-index.result c.new-index.ensures.empty)
+
+pub loop-left-preserved : goal.loop-left-preserved
+loop-left-preserved c =
+    let (le, leads) = c.loop-left.invariant in
+    let lt = c.loop-left-test.true in
+    let left : c.loop-left.left - 1 + 1 ≡ c.loop-left.left = omega (arith, lt) in (
+      omega (arith, le),
+      leads_before c.args.funcs.now (c.loop-left.left - 1) c.index-funcs-left.result c.in_ok-name.name c.loop-left.index c.insert.new.self (omega (arith, le, lt)) c.index-funcs-left.is (c.in_ok-name.ensures ∙ ap (λ (f : Func). f.name) (sym c.index-funcs-left.is)) c.in_ok-insert.ensures.updates
+          (subst (λ k. LeadsFrom c.args.funcs.now k c.loop-left.index) (sym left) leads),
+    )
