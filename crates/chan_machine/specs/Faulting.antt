@@ -21,9 +21,9 @@ abbrev pub first_fault : Fault → Program → Config → List Name → Ending �
 first_fault f program C [] other = other
 first_fault f program C (p ∷ ps) other = fault_or f p (machine_step program C p) (first_fault f program C ps other)
 
--- that of the first that is stuck; else of the first out of range; else of the first that is too deep
-abbrev pub halted_or : Program → Config → List Name → Ending → Ending
-halted_or program C names other = stuck program C names (out_of_range program C names (too_deep program C names other))
+-- that of the first task that is stuck; else of the first out of range; else of the first that forks too deep
+abbrev pub faulted_or : Program → Config → List Name → Ending → Ending
+faulted_or program C names other = stuck program C names (out_of_range program C names (too_deep program C names other))
 
 abbrev pub or_else : Option Told → Ending → Ending
 or_else (Some ending) other = ending_as ending

@@ -4,7 +4,7 @@ ghost use Rattle.core_language.specs.Configurations.{Config as ConfigOf};
 ghost use Rattle.core_language.specs.Endings.{Ending as EndingOf, blocked as blocked_of, ending_of, is_nil, unended as unended_of};
 ghost use Rattle.core_language.specs.Rounds.{moves};
 ghost use Rattle.core_programs.specs.Bodies.{program_of};
-ghost use Rattle.chan_machine.specs.Faulting.{fault_or, first_fault, halted_or, or_else};
+ghost use Rattle.chan_machine.specs.Faulting.{fault_or, first_fault, faulted_or, or_else};
 ghost use Rattle.chan_machine.specs.Fits.{Fits};
 ghost use Rattle.chan_machine.specs.Reading.{config_of, ending_as, step_of};
 
@@ -93,16 +93,16 @@ fn unended(alloc: Global, program: &Program, config: &Config) -> Result<Names, M
     Ok(names)
 }
 
-/// The ending of the first task that is stuck; else of the first that computes a number out of
-/// range; else of the first that forks too deep.
-fn halted(
+/// The ending that the first stuck task brings; else the first that computes a number out of
+/// range; else the first that forks too deep.
+fn faulted(
     alloc: Global,
     program: &Program,
     config: &Config,
     names: &Names,
 ) -> Result<Option<Ending>, Memory>
     requires fits { Fits program.now config.now }
-    ensures { IfOk result (λ found. (other : EndingOf) → halted_or (program_of program.now) (config_of program.now config.now) names.now other ≡ or_else found other) }
+    ensures { IfOk result (λ found. (other : EndingOf) → faulted_or (program_of program.now) (config_of program.now config.now) names.now other ≡ or_else found other) }
 {
     if let Some(ending) = first(alloc, program, config, names, Fault::Stuck)? {
         return Ok(Some(ending));
@@ -142,7 +142,7 @@ pub(crate) fn ending(alloc: Global, program: &Program, config: &Config) -> Resul
         return Ok(Ending::Finished);
     }
     let names = config.tasks(alloc)?;
-    if let Some(ending) = halted(alloc, program, config, &names)? {
+    if let Some(ending) = faulted(alloc, program, config, &names)? {
         return Ok(ending);
     }
     if any_moves(program, config, &names) {

@@ -1,6 +1,5 @@
 //! Rounds that cost what their moving tasks cost.
 ghost use Rattle.std.specs.Prelude.{◌≡◌, ◌<◌, ◌≤◌, suc, IfOk, OnOk};
-ghost use Rattle.core_language.specs.Configurations.{start as start_of};
 ghost use Rattle.core_language.specs.Rounds.{round as round_of, run_of};
 ghost use Rattle.core_programs.specs.Bodies.{program_of};
 ghost use Rattle.machine_rounds.specs.Showing.{ForksUpTo};
@@ -9,7 +8,6 @@ ghost use Rattle.chan_machine.specs.Parking.{is_ready};
 ghost use Rattle.chan_machine.specs.Reading.{config_of};
 ghost use Rattle.chan_machine.specs.Turning.{Parked, run_as};
 
-use crate::configurations::Config;
 use crate::runs::{Queue, Run};
 use crate::sifting::sift;
 use crate::stepping::start;

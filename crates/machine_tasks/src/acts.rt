@@ -1,17 +1,17 @@
 //! What a task does next, told without memory.
-ghost use Rattle.std.specs.Prelude.{◌≡◌, ℕ, List, [], length, nat_lt, if◌then◌else◌};
+ghost use Rattle.std.specs.Prelude.{◌≡◌, ℕ, List, length, nat_lt, if◌then◌else◌};
 ghost use Rattle.std.specs.Option.{option_copied, option_map};
 ghost use Rattle.core_language.specs.Programs.{Body, Program as CoreProgram};
 ghost use Rattle.core_language.specs.Computing.{machine, Depth};
 ghost use Rattle.core_language.specs.Values as core;
 ghost use Rattle.core_language.specs.Configurations.{Caller, Place};
-ghost use Rattle.core_language.specs.Acts.{act_of, act_at as act_at_body, on_pair, on_sum, Silent as Silently};
+ghost use Rattle.core_language.specs.Acts.{act_at as act_at_body, on_pair, on_sum, Silent as Silently};
 ghost use Rattle.core_language.specs.Endings.{is_nil};
-ghost use Rattle.core_programs.specs.Bodies.{opened, program_of};
+ghost use Rattle.core_programs.specs.Bodies.{opened};
 ghost use Rattle.core_programs.specs.Formed.{HasDivisor};
 ghost use Rattle.machine_tasks.specs.Reading.{act_in, env_of, value_as};
 ghost use Rattle.machine_tasks.specs.Fits.{FramesFit};
-ghost use Rattle.machine_tasks.specs.Troubles.{computed_of, done_of};
+ghost use Rattle.machine_tasks.specs.Troubles.{computed_of};
 ghost use Rattle.machine_tasks.specs.Channels.{has_channel as has_channel_of, channel_in, channel_named, end_name};
 ghost use Rattle.machine_tasks.specs.Kinds.{Silent, End, Fork, IsHalted, kind_as, kind_of, kind_after, kind_at_end, print_after};
 
