@@ -1,8 +1,8 @@
 -- How an end is followed past `if` equations, and the message that it has there.
-use Rattle.std.specs.Prelude.{◌≡◌, ◌⊎◌, ℕ, suc, ℤ, pos, ◌≤ℤ◌, int_le, Bool, true, false, ◌&&◌, not, if◌then◌else◌, List, [], ◌∷◌, ◌++◌, All, map, slice_get, Option, Some, None, Result, Ok, Err}
-use Rattle.std.specs.List.{list_all}
+use Rattle.std.specs.Prelude.{◌≡◌, ◌⊎◌, ℕ, suc, ◌≤◌, ℤ, pos, ◌≤ℤ◌, int_le, Bool, true, false, ◌&&◌, not, if◌then◌else◌, List, [], ◌∷◌, ◌++◌, All, map, length, slice_get, Option, Some, None, Result, Ok, Err}
+use Rattle.std.specs.List.{list_all, list_any}
 use Rattle.std.specs.Ordering.{int_eq}
-use Rattle.core_language.specs.Names.{Ident}
+use Rattle.core_language.specs.Names.{Ident, same}
 use Rattle.core_language.specs.Terms.{Part, Term}
 use Rattle.core_language.specs.Resources.{Ref, Res, Equation, Proto, Branch}
 use Rattle.core_language.specs.Operands.{Letter, First, Second, Cert}
@@ -13,9 +13,9 @@ use Rattle.farkas_check.specs.declared.cert.CertFault.{CertFault}
 use Rattle.farkas_check.specs.Certificates.{faults, verdict}
 use Rattle.farkas_check.specs.Rows.{value_at}
 use Rattle.linear_forms.specs.Terms.{IntVar, IntNames, by_place, normal_form}
-use Rattle.linear_forms.specs.Normal.{row_fits}
+use Rattle.linear_forms.specs.Normal.{row_fits, names_of}
 use Rattle.linear_forms.specs.Substitution.{Fits, IsNormalPut, IsRefLike, IsSubst, AllFit, terms_of_res}
-use Rattle.protocols.specs.Duals.{Message, Direction, message_of}
+use Rattle.protocols.specs.Duals.{Message, Direction, message_of, branches_of}
 use Rattle.protocols.specs.Heads.{Head, HasHead, concrete, proto_named, equation_of_end, on_way}
 
 -- why an end isn't followed, or its message not formed
@@ -166,6 +166,25 @@ Unfolds s ref letters (Ok found) = (has_form s.protos letters ref.dual ref.name 
 
 -- ---- its law
 
+-- each name of the term is one of these
+abbrev pub NamesOnly : List Ident → Term → Type 0
+NamesOnly params term = All (λ x. list_any (λ p. same p x) params ≡ true) (names_of term)
+
+-- the terms of an `if` equation
+abbrev pub branch_terms : Equation → List Term
+branch_terms (Branch left right this other) = left ∷ right ∷ this.args ++ other.args
+branch_terms _ = []
+
+-- the reference has as many terms as its protocol has parameters
+abbrev pub HasArity : List Proto → Ref → Type 0
+HasArity protos ref = (proto : Proto) → proto_named ref.name protos ≡ Some proto → length ref.args ≡ length proto.params
+
+-- terms name parameters, references have as many terms as there are parameters, and no divisor is 0
+pub record IsWellFormed (s : Setting) : Type 0 where
+  pub named : (x : Ident) (proto : Proto) → proto_named x s.protos ≡ Some proto → All (NamesOnly proto.params) (branch_terms proto.equation)
+  pub arity : (x : Ident) (proto : Proto) → proto_named x s.protos ≡ Some proto → All (HasArity s.protos) (branches_of proto.equation)
+  pub divisors : (k : ℕ) (cert : Cert) → slice_get s.certs k ≡ Some cert → 1 ≤ cert.divisor
+
 -- where the hypotheses are true, the end has the head that it is followed to
 abbrev pub FollowsTheWays : Type 0
-FollowsTheWays = (s : Setting) (values : ℕ → ℤ) (ref last : Ref) (letters : List Letter) (used : ℕ) (head : Head) → All (λ row. value_at values row ≤ℤ pos 0) s.hyps → Follows s 0 ref letters (On last used) → HasHead s.protos (concrete (by_place s.ints values) last) [] head → HasHead s.protos (concrete (by_place s.ints values) ref) letters head
+FollowsTheWays = (s : Setting) (values : ℕ → ℤ) (ref last : Ref) (letters : List Letter) (used : ℕ) (head : Head) → IsWellFormed s → HasArity s.protos ref → All (λ row. value_at values row ≤ℤ pos 0) s.hyps → Follows s 0 ref letters (On last used) → HasHead s.protos (concrete (by_place s.ints values) last) [] head → HasHead s.protos (concrete (by_place s.ints values) ref) letters head
