@@ -87,7 +87,7 @@ picked_arity protos First left right this other h = All-head (HasArity protos) t
 picked_arity protos Second left right this other h = All-head (HasArity protos) other [] (All-tail (HasArity protos) this (other ∷ []) h)
 
 module _ (s : Setting) (values : ℕ → ℤ) (formed : IsWellFormed s) (hyps : All (λ row. value_at values row ≤ℤ pos 0) s.hyps) where
-  at : Ident → ℤ
+  abbrev at : Ident → ℤ
   at = by_place s.ints values
 
   followed : (letters : List Letter) (used n : ℕ) (ref last : Ref) (head : Head) → HasArity s.protos ref → Follows s used ref letters (On last n) → HasHead s.protos (concrete at last) [] head → HasHead s.protos (concrete at ref) letters head
