@@ -1,2 +1,4 @@
 pub mod Turned
 pub mod One
+pub mod Ways
+pub mod Followed

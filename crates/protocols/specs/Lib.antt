@@ -1,2 +1,3 @@
 pub mod Duals
 pub mod Heads
+pub mod Unfolding
