@@ -26,7 +26,7 @@ use Rattle.protocols.specs.Heads.{argument, way}
 use Rattle.protocols.specs.Unfolding.{Fault, Setting, arguments, turned_part, less, one, asked_row, asks_nothing, mention_for, taken, shown, obligation, NamesOnly}
 
 -- what a parameter has is the value of its argument
-argument_value : (at : Ident → ℤ) (params : List Ident) (ts : List Term) (x : Ident) → length ts ≡ length params → list_any (λ p. same p x) params ≡ true → named (arguments params ts) (pos 1) at x ≡ argument params (map (sum_of (pos 1) at) ts) x
+pub argument_value : (at : Ident → ℤ) (params : List Ident) (ts : List Term) (x : Ident) → length ts ≡ length params → list_any (λ p. same p x) params ≡ true → named (arguments params ts) (pos 1) at x ≡ argument params (map (sum_of (pos 1) at) ts) x
 argument_value at [] ts x l m = absurd (false≢true m)
 argument_value at (p ∷ ps) [] x l m = absurd (omega (arith, l))
 argument_value at (p ∷ ps) (t ∷ ts) x l m = pick (same p x) refl (λ k. argument_value at ps ts x (omega (arith, l)) k)
@@ -35,7 +35,7 @@ argument_value at (p ∷ ps) (t ∷ ts) x l m = pick (same p x) refl (λ k. argu
     pick true q again = rw q refl
     pick false q again = let later : list_any (λ q. same q x) ps ≡ true = rw q at m in rw q (again later)
 
-sum_only : (u : ℤ) (f g : Ident → ℤ) (P : Ident → Type 0) (t : Term) → All P (names_of t) → ((x : Ident) → P x → f x ≡ g x) → sum_of u f t ≡ sum_of u g t
+pub sum_only : (u : ℤ) (f g : Ident → ℤ) (P : Ident → Type 0) (t : Term) → All P (names_of t) → ((x : Ident) → P x → f x ≡ g x) → sum_of u f t ≡ sum_of u g t
 sum_only u f g P [] h k = refl
 sum_only u f g P (p ∷ ps) h k = rw (here p.name (all_left P (option_to_list p.name) (names_of ps) h), sum_only u f g P ps (all_right P (option_to_list p.name) (names_of ps) h) k) refl
   where
