@@ -1,11 +1,11 @@
 -- The rows that letters ask for, and the certificates that are tried on them.
-use Rattle.std.proofs.Common.{◌≡◌, ℕ, suc, ◌<◌, ◌≤◌, Bool, true, false, ◌||◌, if◌then◌else◌, not, List, [], ◌∷◌, ◌++◌, All, map, flat_map, find, length, option_to_list, Option, Some, None, Result, Ok, Err, refl, sym, ◌∙◌, ap, subst, arith}
+use Rattle.std.proofs.Common.{◌≡◌, ℕ, suc, Bool, true, false, if◌then◌else◌, not, List, [], ◌∷◌, ◌++◌, All, map, find, length, option_to_list, None, Ok, Err, refl, sym, ◌∙◌, ap, subst, arith}
 use Rattle.std.specs.List.{list_any}
 use Rattle.std.proofs.Math.Bool.{false≢true}
 use Rattle.std.proofs.lemmas.List.{length-map}
 use Rattle.std.proofs.lemmas.List.Elements.{All-nil, All-cons, All-head, All-tail}
 use Rattle.core_language.specs.Names.{Ident, same}
-use Rattle.core_language.specs.Terms.{Part, Term}
+use Rattle.core_language.specs.Terms.{Term}
 use Rattle.core_language.specs.Operands.{First, Second}
 use Rattle.core_language.specs.Operands as operand
 use Rattle.farkas_check.specs.Certificates.{faults, verdict}
@@ -19,13 +19,13 @@ use Rattle.linear_forms.specs.Normal as form
 use Rattle.linear_forms.specs.Substitution.{Each, Fits, IsNormalPut}
 use Rattle.linear_forms.proofs.Shorts.{all_left, all_right}
 use Rattle.chan_syntax.specs.Bounds.{mention_in, cert_in}
-use Rattle.chan_syntax.specs.Reading.{term_of, mention_of, cert_of}
+use Rattle.chan_syntax.specs.Reading.{term_of, cert_of}
 use Rattle.chan_syntax.specs.declared.linear.Term as written
 use Rattle.chan_syntax.specs.declared.operands.WrittenCert.{WrittenCert}
 use Rattle.outline_rules.specs.Naming.{int_var_of, int_names_of}
 use Rattle.outline_rules.specs.declared.naming.IntNames as context
 use Rattle.substitution.specs.Scopes.{put_of}
-use Rattle.protocols.specs.Unfolding.{arguments, turned_part, less, one, asked_term, NamesOnly, mention_for, taken, BranchNotProved}
+use Rattle.protocols.specs.Unfolding.{arguments, turned_part, less, asked_term, NamesOnly, mention_for, taken, BranchNotProved}
 use Rattle.protocols.proofs.Forming.{put_is}
 
 -- ---- names of what is asked

@@ -1,5 +1,5 @@
 -- Certificates within their bounds have divisors.
-use Rattle.std.proofs.Common.{◌≡◌, ℕ, zero, suc, ◌≤◌, List, [], ◌∷◌, All, map, slice_get, Option, Some, None, subst}
+use Rattle.std.proofs.Common.{◌≡◌, ℕ, zero, suc, ◌≤◌, List, [], ◌∷◌, All, map, slice_get, Some, subst}
 use Rattle.std.proofs.lemmas.List.Elements.{All-head, All-tail}
 use Rattle.core_language.specs.Names.{Ident}
 use Rattle.core_language.specs.Operands.{Cert}

@@ -1,5 +1,5 @@
 -- Where the hypotheses are true, an end has the head that it is followed to.
-use Rattle.std.proofs.Common.{◌≡◌, ◌⊎◌, inl, inr, ℕ, ℤ, pos, ◌≤ℤ◌, Bool, true, false, zero, suc, List, [], ◌∷◌, ◌++◌, All, map, length, Some, Ok, refl, sym, ◌∙◌, ap, subst}
+use Rattle.std.proofs.Common.{◌≡◌, inl, inr, ℕ, ℤ, pos, ◌≤ℤ◌, Bool, true, false, zero, suc, List, [], ◌∷◌, ◌++◌, All, map, length, refl, sym, ◌∙◌, subst}
 use Rattle.std.proofs.lemmas.List.Elements.{All-head, All-tail}
 use Rattle.core_language.specs.Names.{Ident}
 use Rattle.core_language.specs.Terms.{Term}
@@ -11,7 +11,7 @@ use Rattle.linear_forms.specs.Substitution.{Each, IsNormalPut, IsRefLike}
 use Rattle.linear_forms.proofs.Shorts.{all_left, all_right}
 use Rattle.protocols.specs.Duals.{dual_equation, dual_ref, branches_of}
 use Rattle.protocols.specs.Heads.{Head, HasHead, Concrete, concrete, argument, equation_of_end, way, on_way}
-use Rattle.protocols.specs.Unfolding.{Fault, Setting, arguments, asked_row, Outcome, On, Stop, Takes, Follows, HasEquationAt, NamesOnly, branch_terms, HasArity, IsWellFormed, FollowsTheWays, var_at}
+use Rattle.protocols.specs.Unfolding.{Setting, arguments, asked_row, On, Follows, NamesOnly, branch_terms, HasArity, IsWellFormed, FollowsTheWays, var_at}
 use Rattle.protocols.proofs.Ways.{term_value_is, met, letter_is_way}
 
 -- ---- the equation of a dual

@@ -1,5 +1,5 @@
 -- Ends and messages that are formed.
-use Rattle.std.proofs.Common.{◌≡◌, ℕ, ◌+◌, ◌<◌, ◌≤◌, Bool, true, false, not, List, [], ◌∷◌, ◌++◌, All, map, find, length, take, get_or, Option, Some, None, option_map, refl, sym, ◌∙◌, ap, subst, arith}
+use Rattle.std.proofs.Common.{◌≡◌, ℕ, ◌+◌, ◌<◌, Bool, true, false, not, List, [], ◌∷◌, ◌++◌, All, map, find, length, take, get_or, Some, option_map, refl, sym, ◌∙◌, ap, subst, arith}
 use Rattle.std.proofs.lemmas.List.{take_more, map-append, length-map, length-take-le}
 use denote.Hole.Carrier.{hidden}
 use Rattle.core_language.specs.Names.{Ident, same}
@@ -18,7 +18,7 @@ use Rattle.chan_syntax.specs.declared.resources.Shape.TheBlock.{hidden-the_row-R
 use Rattle.outline_rules.specs.Naming.{int_var_of}
 use Rattle.outline_rules.specs.declared.naming.IntVar.{IntVar}
 use Rattle.substitution.specs.Scopes.{put_of}
-use Rattle.protocols.specs.Duals.{Direction, Message, message_of, dual_ref, turned_if}
+use Rattle.protocols.specs.Duals.{Direction, Message, message_of, turned_if}
 use Rattle.protocols.specs.Heads.{proto_named, equation_of_end}
 use Rattle.protocols.specs.Unfolding.{arguments, HasArity, HasFormed, IsMessageTooLarge}
 

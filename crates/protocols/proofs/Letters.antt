@@ -1,8 +1,8 @@
 -- The form of a path, letter by letter.
-use Rattle.std.proofs.Common.{◌≡◌, ℕ, suc, ◌+◌, ◌<◌, Bool, true, false, List, [], ◌∷◌, map, length, get_or, drop, Option, Some, None, refl, sym, ◌∙◌, ap, arith}
+use Rattle.std.proofs.Common.{◌≡◌, ℕ, suc, ◌+◌, ◌<◌, false, List, ◌∷◌, map, length, get_or, drop, None, refl, ◌∙◌, ap, arith}
 use Rattle.std.proofs.Math.Seq.{drop-cons}
 use Rattle.core_language.specs.Names.{Ident}
-use Rattle.core_language.specs.Resources.{Ref, Proto}
+use Rattle.core_language.specs.Resources.{Proto}
 use Rattle.chan_syntax.specs.Reading.{letter_of}
 use Rattle.chan_syntax.specs.declared.operands.Letter.{Letter}
 use Rattle.protocols.specs.Heads.{proto_named}

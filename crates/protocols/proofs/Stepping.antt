@@ -1,5 +1,5 @@
 -- What comes of a letter, and of all letters of a path.
-use Rattle.std.proofs.Common.{◌≡◌, ◌⊎◌, inl, inr, ◌++◌, ℕ, suc, ◌+◌, ◌<◌, ◌≤◌, Bool, true, false, if◌then◌else◌, List, [], ◌∷◌, All, map, length, get_or, drop, slice_get, is_some, Option, Some, None, Result, Ok, Err, refl, sym, ◌∙◌, ap, subst, arith}
+use Rattle.std.proofs.Common.{◌≡◌, inl, inr, ◌++◌, ℕ, ◌+◌, ◌<◌, ◌≤◌, Bool, true, false, if◌then◌else◌, List, [], ◌∷◌, All, map, length, get_or, drop, slice_get, is_some, Option, Some, None, Result, Ok, Err, refl, sym, ◌∙◌, ap, subst, arith}
 use Rattle.std.proofs.Math.Seq.{drop-length}
 use Rattle.std.proofs.Math.Bool.{false≢true}
 use Rattle.std.proofs.lemmas.List.FromFn.{length-map-range_with_len}
@@ -13,7 +13,7 @@ use Rattle.farkas_check.specs.declared.cert.CertFault.{CertFault}
 use Rattle.farkas_check.specs.Certificates.{faults, verdict}
 use Rattle.farkas_check.specs.Rows.{IsNarrow}
 use Rattle.linear_forms.specs.Terms.{IntVar, coefficient_of}
-use Rattle.linear_forms.specs.Substitution.{Each, Fits, IsNormalPut, IsRefLike}
+use Rattle.linear_forms.specs.Substitution.{Fits, IsNormalPut, IsRefLike}
 use Rattle.chan_syntax.specs.Reading.{letter_of}
 use Rattle.chan_syntax.specs.declared.operands.Letter as written
 use Rattle.substitution.specs.declared.faults.SubstFault.{SubstFault}

@@ -1,5 +1,5 @@
 -- What unfolding answers is the head of the end where the hypotheses are true.
-use Rattle.std.proofs.Common.{◌≡◌, inl, inr, ℕ, suc, ℤ, pos, Bool, true, false, ◌||◌, List, [], ◌∷◌, ◌++◌, All, map, flat_map, length, Option, Some, None, option_map, is_none, Ok, refl, sym, ◌∙◌, ap, subst}
+use Rattle.std.proofs.Common.{◌≡◌, inl, inr, ℕ, suc, ℤ, pos, Bool, true, false, List, [], ◌∷◌, ◌++◌, All, map, flat_map, length, Option, Some, None, option_map, refl, sym, ◌∙◌, ap, subst}
 use Rattle.std.specs.List.{list_any}
 use Rattle.std.proofs.lemmas.List.Elements.{All-head, All-tail}
 use Rattle.core_language.specs.Names.{Ident, same}
@@ -8,12 +8,11 @@ use Rattle.core_language.specs.Resources.{Ref, Shape, Res, Equation, Proto}
 use Rattle.core_language.specs.Resources as resource
 use Rattle.core_language.specs.Operands.{Letter}
 use Rattle.linear_forms.specs.Terms.{IntVar, sum_of, named, by_place}
-use Rattle.linear_forms.specs.Normal.{names_of}
-use Rattle.linear_forms.specs.Substitution.{Var, Free, Inside, place_of, at_place, sum_under, Scoped, scoped, terms_of_limit, terms_of_shape, terms_of_res, Each, OnNames, OnTerms, AnyNames, IsLimitLike, IsRefLike, IsShapeLike, IsResLike, IsRenamed, IsNormalPut}
+use Rattle.linear_forms.specs.Substitution.{place_of, at_place, Scoped, scoped, terms_of_limit, terms_of_shape, terms_of_res, Each, OnNames, OnTerms, AnyNames, IsLimitLike, IsShapeLike, IsResLike, IsRenamed, IsNormalPut}
 use Rattle.linear_forms.proofs.Shorts.{all_left, all_right}
-use Rattle.protocols.specs.Duals.{Message, message_of, turned, dual_equation}
-use Rattle.protocols.specs.Heads.{Head, HasHead, Concrete, concrete, argument, equation_of_end, proto_named}
-use Rattle.protocols.specs.Unfolding.{Setting, arguments, Found, On, Follows, Unfolds, NamesOnly, NamesUnder, message_terms, HasArity, AreFormed, IsWellFormed, AreTrue, var_at, HaveOneValue, IsTheHead, FindsTheHead}
+use Rattle.protocols.specs.Duals.{Message, message_of, turned}
+use Rattle.protocols.specs.Heads.{Head, argument, equation_of_end}
+use Rattle.protocols.specs.Unfolding.{Setting, arguments, On, Follows, NamesUnder, message_terms, HasArity, AreFormed, var_at, HaveOneValue, FindsTheHead}
 use Rattle.protocols.proofs.Turned.{same_message}
 use Rattle.protocols.proofs.Ways.{argument_value, sum_only}
 use Rattle.protocols.proofs.Followed.{follows_the_ways}

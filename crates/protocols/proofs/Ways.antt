@@ -1,14 +1,13 @@
 -- A path that is followed goes the ways that the end goes where the hypotheses are true.
-use Rattle.std.proofs.Common.{◌≡◌, ◌⊎◌, inl, inr, ℕ, suc, ◌≤◌, ℤ, pos, neg_ℤ, ◌+ℤ◌, ◌-ℤ◌, ◌*ℤ◌, ◌≤ℤ◌, ◌<ℤ◌, int_le, Bool, true, false, ◌&&◌, ◌||◌, if◌then◌else◌, not, List, [], ◌∷◌, ◌++◌, All, map, length, slice_get, option_to_list, Option, Some, None, Result, Ok, Err, IsOk, refl, sym, ◌∙◌, ap, subst, arith}
+use Rattle.std.proofs.Common.{◌≡◌, ℕ, suc, ◌≤◌, ℤ, pos, neg_ℤ, ◌-ℤ◌, ◌*ℤ◌, ◌≤ℤ◌, ◌<ℤ◌, int_le, Bool, true, false, List, [], ◌∷◌, All, map, length, slice_get, option_to_list, Option, Some, None, Result, Ok, Err, IsOk, refl, sym, subst, arith}
 use Rattle.std.specs.List.{list_all, list_any}
 use Rattle.std.specs.Ordering.{int_eq}
 use Rattle.std.proofs.lemmas.Int.{ints}
-use Rattle.std.proofs.lemmas.List.Elements.{All-head, All-tail}
+use Rattle.std.proofs.lemmas.List.Elements.{All-head}
 use Rattle.std.proofs.Math.IntN as Z
 use Rattle.std.proofs.Math.Bool.{false≢true}
 use Rattle.core_language.specs.Names.{Ident, same}
 use Rattle.core_language.specs.Terms.{Part, Term}
-use Rattle.core_language.specs.Resources.{Ref, Equation, Proto, Branch}
 use Rattle.core_language.specs.Operands.{Letter, First, Second, Cert}
 use Rattle.farkas_check.specs.declared.cert.Row.{Row}
 use Rattle.farkas_check.specs.declared.cert.CertFault.{CertFault}
@@ -17,13 +16,13 @@ use Rattle.farkas_check.specs.Certificates.{faults, verdict}
 use Rattle.farkas_check.proofs.Forms.{entailed}
 use Rattle.farkas_check.proofs.Validity.{valid-ok}
 use Rattle.farkas_check.proofs.Products.{neg_times}
-use Rattle.linear_forms.specs.Terms.{IntVar, times_of, counted, sum_of, named, by_place}
+use Rattle.linear_forms.specs.Terms.{times_of, counted, sum_of, named, by_place}
 use Rattle.linear_forms.specs.Normal.{names_of}
 use Rattle.linear_forms.proofs.Linear.{normal_value}
 use Rattle.linear_forms.proofs.Counts.{sum-append}
 use Rattle.linear_forms.proofs.Shorts.{all_left, all_right}
 use Rattle.protocols.specs.Heads.{argument, way}
-use Rattle.protocols.specs.Unfolding.{Fault, Setting, arguments, turned_part, less, one, asked_row, asks_nothing, mention_for, taken, shown, obligation, NamesOnly}
+use Rattle.protocols.specs.Unfolding.{Setting, arguments, turned_part, less, one, asked_row, asks_nothing, mention_for, taken, shown, obligation, NamesOnly}
 
 -- what a parameter has is the value of its argument
 pub argument_value : (at : Ident → ℤ) (params : List Ident) (ts : List Term) (x : Ident) → length ts ≡ length params → list_any (λ p. same p x) params ≡ true → named (arguments params ts) (pos 1) at x ≡ argument params (map (sum_of (pos 1) at) ts) x

@@ -1,9 +1,8 @@
-use Rattle.std.proofs.Common.{◌≡◌, map, ap, subst, sym}
+use Rattle.std.proofs.Common.{map, ap, subst, sym}
 use Rattle.std.proofs.lemmas.Result.{err_from_is_err_and}
 use Rattle.core_language.specs.Resources.{Ref}
 use Rattle.chan_syntax.specs.Reading.{ref_of, letter_of}
 use Rattle.protocols.specs.Unfolding.{Follows, HasArity}
-use Rattle.protocols.specs.Unfolding as spec
 use Rattle.protocols.specs.Settings.{setting_of}
 use Rattle.protocols.proofs.Stepping.{step_arity, letter_goes, step_form, leads_on, stop_fault, leads_to_end, stops_at_end}
 use Rattle.protocols.proofs.unfolding.follow.Goals as goal
