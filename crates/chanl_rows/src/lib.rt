@@ -2,12 +2,18 @@
 #![tactic(auto)]
 
 #[cfg(test)]
+mod endings;
+#[cfg(test)]
 mod formats;
 #[cfg(test)]
 mod names;
 #[cfg(test)]
 mod replays;
 #[cfg(test)]
+mod runs;
+#[cfg(test)]
 mod spellings;
+#[cfg(test)]
+mod words;
 #[cfg(test)]
 mod worked;

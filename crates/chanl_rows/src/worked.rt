@@ -1,13 +1,15 @@
-//! The worked programs under `fmt`.
-use row_answers::answer;
+//! The worked programs under `fmt` and `replay`.
+use row_answers::{answer, lines};
 use std::test::Fail;
 
-/// Programs, each with what it shows.
-const PROGRAMS: [(&str, &[u8]); 15] = [
+/// Programs, each with what it shows, and what `replay` writes, where ` / ` stands for a line end.
+const PROGRAMS: [(&str, &[u8], &str, u8); 15] = [
     (
         "one print",
         b"fn main() -> unit { print 7; ret () }
 ",
+        "7 / finished",
+        0,
     ),
     (
         "a fork and its receive",
@@ -15,6 +17,8 @@ const PROGRAMS: [(&str, &[u8]); 15] = [
 fn child(y: end ~One()) -> unit { send1 y 5; ret () }
 fn main() -> unit { let c = fork One() child(); let v = recv1 c; print v; ret () }
 ",
+        "5 / finished",
+        0,
     ),
     (
         "a question within limits",
@@ -29,6 +33,8 @@ fn main() -> unit {
   close d; ret ()
 }
 ",
+        "refused not yet",
+        1,
     ),
     (
         "a certificate",
@@ -38,6 +44,8 @@ fn f [x: 2*x <= 1](a: int(x)) -> unit {
 }
 fn main() -> unit { ret () }
 ",
+        "finished",
+        0,
     ),
     (
         "a channel that is left",
@@ -48,6 +56,8 @@ fn main() -> unit {
   ret ()
 }
 ",
+        "leaked main.0",
+        8,
     ),
     (
         "a second send",
@@ -60,6 +70,8 @@ fn main() -> unit {
   ret ()
 }
 ",
+        "stuck main no channel",
+        8,
     ),
     (
         "a deadlock",
@@ -73,6 +85,8 @@ fn main() -> unit {
   let c = fork One() kid(); let v = recv1 c; send1 c v; ret ()
 }
 ",
+        "deadlocked main main.0",
+        8,
     ),
     (
         "an end sent on itself",
@@ -83,6 +97,8 @@ fn kid(y: end ~Back()) -> unit {
 }
 fn main() -> unit { let c = fork Back() kid(); let d = recv1 c; ret () }
 ",
+        "finished",
+        0,
     ),
     (
         "a ticker without end",
@@ -95,6 +111,8 @@ fn main() -> unit {
   }
 }
 ",
+        "refused not yet",
+        1,
     ),
     (
         "a number out of range",
@@ -105,6 +123,8 @@ fn main() -> unit {
   print 1; print 2; wait c; ret ()
 }
 ",
+        "refused not yet",
+        1,
     ),
     (
         "the order of prints",
@@ -116,6 +136,8 @@ fn main() -> unit {
   wait d; wait c; ret ()
 }
 ",
+        "refused not yet",
+        1,
     ),
     (
         "ping and pong",
@@ -145,6 +167,8 @@ fn main() -> unit {
   }
 }
 ",
+        "refused not yet",
+        1,
     ),
     (
         "tasks nested deep",
@@ -155,6 +179,8 @@ fn deep [n](y: end ~Fin(), m: int(n)) -> unit {
 }
 fn main() -> unit { let c = fork Fin() deep(1023) with [1023]; wait c; print 1; ret () }
 ",
+        "refused not yet",
+        1,
     ),
     (
         "a choice",
@@ -174,6 +200,8 @@ fn main() -> unit {
   close e; ret ()
 }
 ",
+        "refused not yet",
+        1,
     ),
     (
         "what cannot be",
@@ -184,18 +212,31 @@ fn main() -> unit {
 }
 fn main() -> unit { ret () }
 ",
+        "finished",
+        0,
     ),
 ];
 
 /// What is written for a program is written again as it is.
 #[test]
 fn spellings_are_settled(rt: HostRuntime) -> Result<(), Fail> {
-    for (_, text) in PROGRAMS {
+    for (_, text, _, _) in PROGRAMS {
         let (status, spelling) = answer(rt.alloc(), &["fmt"], text)?;
         assert_eq!(rt; status, 0);
         let (status, again) = answer(rt.alloc(), &["fmt"], spelling.as_slice())?;
         assert_eq!(rt; status, 0);
         assert_eq!(rt; again.as_slice(), spelling.as_slice());
+    }
+    Ok(())
+}
+
+#[test]
+fn worked_programs_are_replayed(rt: HostRuntime) -> Result<(), Fail> {
+    for (shown, text, output, wanted) in PROGRAMS {
+        let (status, written) = answer(rt.alloc(), &["replay"], text)?;
+        let output = lines(rt.alloc(), output)?;
+        assert_eq!(rt; written.as_slice(), output.as_slice(), "{shown}");
+        assert_eq!(rt; status, wanted, "{shown}");
     }
     Ok(())
 }
