@@ -65,3 +65,8 @@ returns-clause-value c = λ t found is.
     ap (λ (x : Task). effect C p x.forks (act_in program x)) same
     ∙ forks_now C p old.forks (act_in program old) (map_of (task_of program.nodes) c.branch-program.new.tasks) (map_of (option_map value_as) c.put_child.new.channels) key c.in_ok-event.event parent its
     (branches.act_is ∙ ap (λ n. act.Fork n parent its) (sym named)) off ts cs c.in_ok-event.ensures
+
+pub returns-in_err-put_child-clause-fits : goal.returns-in_err-put_child-clause-fits
+returns-in_err-put_child-clause-fits c = λ p t found.
+    let same : c.put_child.new.tasks.entries ≡ c.args.config.now.tasks.entries = c.in_err-put_child.ensures.err_tasks in
+    c.requires.fits p t (search (rules, same, found))
