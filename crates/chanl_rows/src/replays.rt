@@ -225,7 +225,11 @@ fn layout_and_comments_change_nothing(rt: HostRuntime) -> Result<(), Fail> {
 fn sessions_do_not_run_yet(rt: HostRuntime) -> Result<(), Fail> {
     for text in SESSIONS.lines() {
         let (status, written) = answer(rt.alloc(), REPLAY, text.as_bytes())?;
-        assert_eq!(rt; written.as_slice(), b"refused not yet\n".as_slice(), "{text}");
+        assert_eq!(rt;
+            written.as_slice(),
+            b"refused not yet\n".as_slice(),
+            "{text}"
+        );
         assert_eq!(rt; status, 1, "{text}");
     }
     Ok(())
