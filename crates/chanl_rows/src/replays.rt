@@ -32,7 +32,7 @@ let v = void(); let w = same(v) with [9223372036854775807 + 1]; ret w => finishe
 ";
 
 /// Whole programs.
-const PROGRAMS: [Row; 9] = [
+const PROGRAMS: [Row; 15] = [
     // Calls of calls.
     (
         REPLAY,
@@ -163,6 +163,70 @@ fn main() -> unit { print 7; ret () }
   if a <= 0 { ret () } else { let b = a - 1; nest((p, ()), b) with [n - 1] }
 }
 fn main() -> unit { nest((), 256) with [256] }
+",
+        "finished",
+    ),
+    // A certificate that shows nothing.
+    (
+        REPLAY,
+        "fn need [x: x <= 0](a: int(x)) -> unit { ret () }
+fn f [x: 2*x <= 2](a: int(x)) -> unit {
+  need(a) with [x] by [{2: 1 #0}]
+}
+fn main() -> unit { ret () }
+",
+        "finished",
+    ),
+    // A certificate that shows nothing.
+    (
+        REPLAY,
+        "fn need [x: x <= 0](a: int(x)) -> unit { ret () }
+fn f [x: 2*x <= 1](a: int(x)) -> unit {
+  need(a) with [x] by [{2: 1 #1}]
+}
+fn main() -> unit { ret () }
+",
+        "finished",
+    ),
+    // A certificate that shows nothing.
+    (
+        REPLAY,
+        "fn need [x: x <= 0](a: int(x)) -> unit { ret () }
+fn f [x: 2*x <= 1](a: int(x)) -> unit {
+  need(a) with [x] by [{2: -1 #0}]
+}
+fn main() -> unit { ret () }
+",
+        "finished",
+    ),
+    // A certificate that shows nothing.
+    (
+        REPLAY,
+        "fn need [x: x <= 0](a: int(x)) -> unit { ret () }
+fn f [x: 2*x <= 1](a: int(x)) -> unit {
+  need(a) with [x] by [{1 #0}]
+}
+fn main() -> unit { ret () }
+",
+        "finished",
+    ),
+    // A call whose proof shows nothing.
+    (
+        REPLAY,
+        "fn need [x: x <= 0](a: int(x)) -> unit { print a; ret () }
+fn main() -> unit { need(5) with [7, 9223372036854775807 + 1] by [{2: -1 #9}] }
+",
+        "5 / finished",
+    ),
+    // An absurd that is not come to.
+    (
+        REPLAY,
+        "fn f [x: 1 <= x](a: int(x)) -> unit {
+  if a <= 0 {
+    absurd
+  } else { ret () }
+}
+fn main() -> unit { f(1) with [1] }
 ",
         "finished",
     ),
