@@ -14,8 +14,6 @@ use Rattle.core_language.specs.Endings.{Ending, ending_of}
 use Rattle.core_language.specs.Endings as ending
 use Rattle.chan_base.specs.Stream.{Takes}
 use Rattle.chan_syntax.specs.declared.surface_tree.Surface.{Surface}
-use Rattle.surface_grammar.specs.Language.{Derives}
-use Rattle.text_tokens.specs.Text.{Token, HasTokens}
 use Rattle.chanl_words.specs.declared.Command.{Command}
 use Rattle.chanl_words.specs.declared.Command.TheVariants as command
 use Rattle.chanl_words.specs.Words.{Admits}

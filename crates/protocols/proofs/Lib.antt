@@ -1,2 +1,10 @@
 pub mod Turned
 pub mod One
+pub mod Ways
+pub mod Followed
+pub mod Forming
+pub mod Letters
+pub mod Asked
+pub mod Stepping
+pub mod TheHead
+pub mod Divisors

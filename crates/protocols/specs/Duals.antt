@@ -1,5 +1,5 @@
 -- Duals, and the messages of equations.
-use Rattle.std.specs.Prelude.{◌≡◌, not, List, [], ◌∷◌, map, Option, Some, None}
+use Rattle.std.specs.Prelude.{◌≡◌, Bool, not, if◌then◌else◌, List, [], ◌∷◌, map, Option, Some, None}
 use Rattle.std.specs.Option.{option_map}
 use Rattle.core_language.specs.Terms.{Bound}
 use Rattle.core_language.specs.Resources.{Ref, Res, Equation, Proto, Unit, End, Pair, Binds, Send, Recv, Close, Wait, Branch}
@@ -7,6 +7,10 @@ use Rattle.core_language.specs.Resources.{Ref, Res, Equation, Proto, Unit, End, 
 -- the mark twice is none
 abbrev pub dual_ref : Ref → Ref
 dual_ref ref = record { dual = not ref.dual; name = ref.name; args = ref.args }
+
+-- the dual, where the mark is set
+abbrev pub turned_if : Bool → Ref → Ref
+turned_if dual ref = if dual then dual_ref ref else ref
 
 -- what the other end does
 abbrev pub dual_equation : Equation → Equation

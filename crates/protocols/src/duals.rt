@@ -17,7 +17,7 @@ pub fn dual_ref(alloc: Global, from: &Ref) -> Result<Ref, Memory>
 }
 
 /// The dual of what follows a message, where something does.
-fn dual_next(alloc: Global, next: &Option<Ref>) -> Result<Option<Ref>, Memory>
+pub(crate) fn dual_next(alloc: Global, next: &Option<Ref>) -> Result<Option<Ref>, Memory>
     ensures { IfOk result (λ dual. option_map ref_of dual ≡ option_map spec.dual_ref (option_map ref_of next.now)) }
 {
     match next {
@@ -26,7 +26,7 @@ fn dual_next(alloc: Global, next: &Option<Ref>) -> Result<Option<Ref>, Memory>
     }
 }
 
-fn dual_equation(alloc: Global, equation: &Equation) -> Result<Equation, Memory>
+pub(crate) fn dual_equation(alloc: Global, equation: &Equation) -> Result<Equation, Memory>
     ensures { IfOk result (λ dual. equation_of dual ≡ spec.dual_equation (equation_of equation.now)) }
 {
     match equation {

@@ -1,0 +1,6 @@
+use Rattle.std.proofs.Common.{◌≡◌, ◌++◌, map, drop}
+use Rattle.chan_syntax.specs.Reading.{part_of}
+use Rattle.protocols.proofs.asking.push_all.Given as goal
+
+abbrev pub invariant-loop-part : goal.invariant-loop-part
+invariant-loop-part l = map part_of l.parts ++ map part_of (drop l.part-index l.part-items) ≡ map part_of l.initial.parts ++ map part_of l.part-items

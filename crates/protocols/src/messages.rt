@@ -1,0 +1,134 @@
+//! The message of an end.
+ghost use Rattle.std.specs.Prelude.{◌≡◌, [], true, length, map, IfOk, IfErr};
+ghost use Rattle.std.specs.Option.{option_map};
+ghost use Rattle.core_language.specs.Resources.{Pair, Binds, End};
+ghost use Rattle.linear_forms.specs.Substitution.{AllFit, IsSubst, terms_of_res};
+ghost use Rattle.chan_syntax.specs.Reading.{term_of, ref_of, bound_of, shape_of, res_of, equation_of, proto_of};
+ghost use Rattle.substitution.specs.declared.faults.SubstFault.TheVariants as cause;
+ghost use Rattle.protocols.specs.Duals as duals;
+ghost use Rattle.protocols.specs.Heads as heads;
+ghost use Rattle.protocols.specs.Unfolding.{arguments, stops, HasArity, HasFormed, IsMessageTooLarge};
+ghost use Rattle.protocols.specs.HeadsOf.{message_in, direction_of, resource_of};
+
+use crate::duals::{dual_equation, dual_next};
+use crate::paths::proto_named;
+use chan_base::Memory;
+use chan_syntax::{Bound, Equation, Idents, Limits, Proto, Ref, Res, Shape, Spans, Terms};
+use sqlite_items::Boxed;
+use std::alloc::Global;
+use substitution::{SubstFault, subst};
+
+/// What an end does next: it sends a resource, or receives one.
+#[derive(Drop)]
+pub enum Head {
+    Send(Res),
+    Recv(Res),
+}
+
+fn no_bound(alloc: Global) -> Bound
+    ensures { bound_of result ≡ duals.no_bound }
+{
+    Bound {
+        names: Idents::new(alloc),
+        names_spans: Spans::new(alloc),
+        limits: Limits::new(alloc),
+    }
+}
+
+fn bare(alloc: Global, shape: Shape) -> Res
+    ensures { res_of result ≡ Binds duals.no_bound (shape_of shape) }
+{
+    Res {
+        bound: no_bound(alloc),
+        shape,
+    }
+}
+
+/// A pair of a shape and the end at which the receiver goes on.
+#[tactic(auto, using(crate::proofs::Forming::pair_of))]
+fn paired(alloc: Global, shape: Shape, next: Ref) -> Result<Shape, Memory>
+    ensures { IfOk result (λ pair. shape_of pair ≡ Pair (Binds duals.no_bound (shape_of shape)) (Binds duals.no_bound (End (ref_of next)))) }
+{
+    let first = Boxed::new(alloc, bare(alloc, shape))?;
+    let second = Boxed::new(alloc, bare(alloc, Shape::End(next)))?;
+    Ok(Shape::Pair(first, second))
+}
+
+/// A resource, with the end at which the receiver goes on where there is one.
+fn with_end(alloc: Global, res: Res, next: Option<Ref>) -> Result<Res, Memory>
+    ensures { IfOk result (λ all. res_of all ≡ duals.with_end (res_of res) (option_map ref_of next)) }
+{
+    match next {
+        None => Ok(res),
+        Some(next) => Ok(Res {
+            bound: res.bound,
+            shape: paired(alloc, res.shape, next)?,
+        }),
+    }
+}
+
+/// The equation of a protocol, or that of its dual.
+fn equation_of_end(alloc: Global, dual: bool, proto: &Proto) -> Result<Equation, Memory>
+    ensures { IfOk result (λ equation. equation_of equation ≡ heads.equation_of_end dual (proto_of proto.now)) }
+{
+    if dual {
+        dual_equation(alloc, &proto.equation)
+    } else {
+        proto.equation.copy(alloc)
+    }
+}
+
+/// The message of an equation that isn't `if`.
+fn message_of(alloc: Global, equation: Equation) -> Result<Option<Head>, Memory>
+    ensures { IfOk result (λ head. option_map message_in head ≡ duals.message_of (equation_of equation)) }
+{
+    match equation {
+        Equation::Send(res, next) => {
+            let next = dual_next(alloc, &next)?;
+            Ok(Some(Head::Send(with_end(alloc, res, next)?)))
+        }
+        Equation::Recv(res, next) => Ok(Some(Head::Recv(with_end(alloc, res, next)?))),
+        Equation::Close => Ok(Some(Head::Send(bare(alloc, Shape::Unit)))),
+        Equation::Wait => Ok(Some(Head::Recv(bare(alloc, Shape::Unit)))),
+        Equation::Branch(..) => Ok(None),
+    }
+}
+
+/// A message in which arguments stand for parameters.
+fn formed(alloc: Global, message: Head, params: &Idents, args: &Terms) -> Result<Head, SubstFault>
+    requires { length args.now ≡ length params.now }
+    ensures direction { IfOk result (λ head. direction_of head ≡ direction_of message) }
+    ensures res { IfOk result (λ head. IsSubst (arguments params.now (map term_of args.now)) (resource_of message) (resource_of head)) }
+    ensures err { IfErr result (λ fault. fault ≡ cause.TooLarge → AllFit (arguments params.now (map term_of args.now)) (terms_of_res [] (resource_of message)) → ⊥) }
+{
+    match message {
+        Head::Send(res) => {
+            let res = subst(alloc, &res, params, args)?;
+            Ok(Head::Send(res))
+        }
+        Head::Recv(res) => {
+            let res = subst(alloc, &res, params, args)?;
+            Ok(Head::Recv(res))
+        }
+    }
+}
+
+/// The head of an end whose equation isn't `if`.
+pub(crate) fn head_of(alloc: Global, protos: &[Proto], end: &Ref) -> Result<Head, SubstFault>
+    requires stops { stops (heads.proto_named end.now.name (map proto_of protos.now)) ≡ true }
+    requires arity { HasArity (map proto_of protos.now) (ref_of end.now) }
+    ensures ok { IfOk result (λ head. HasFormed (map proto_of protos.now) (ref_of end.now) (direction_of head) (resource_of head)) }
+    ensures err { IfErr result (λ fault. fault ≡ cause.TooLarge → IsMessageTooLarge (map proto_of protos.now) (ref_of end.now)) }
+{
+    let Some(proto) = proto_named(protos, &end.name) else {
+        unreachable!();
+    };
+    let equation = equation_of_end(alloc, end.dual, proto)?;
+    match message_of(alloc, equation)? {
+        Some(message) => {
+            let head = formed(alloc, message, &proto.params, &end.args)?;
+            Ok(head)
+        }
+        None => unreachable!(),
+    }
+}
