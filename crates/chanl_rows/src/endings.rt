@@ -121,7 +121,7 @@ fn main() -> unit { let c = fork Put() sink(); send1 c (1, 9223372036854775807 +
 ];
 
 /// Programs that get stuck, wait for ever or leave a channel.
-const BAD_ENDINGS: [Row; 15] = [
+const BAD_ENDINGS: [Row; 16] = [
     // A second send while the first stands.
     (
         &["replay", "--rounds", "2"],
@@ -274,6 +274,18 @@ fn parent(y: end ~One()) -> unit { let c = fork One() child(); send1 y 5; ret ()
 fn main() -> unit { let c = fork One() parent(); let d = fork One() child(); let v = recv1 c; print v; ret () }
 ",
         "5 / leaked main.0.0 main.1",
+    ),
+    // An absurd that is come to.
+    (
+        REPLAY,
+        "fn f [x: 1 <= x](a: int(x)) -> unit {
+  if a <= 0 {
+    absurd by [{1 #0, 1 #1}]
+  } else { ret () }
+}
+fn main() -> unit { f(0) with [1] }
+",
+        "stuck main absurd",
     ),
 ];
 

@@ -32,7 +32,7 @@ let v = void(); let w = same(v) with [9223372036854775807 + 1]; ret w => finishe
 ";
 
 /// Whole programs.
-const PROGRAMS: [Row; 9] = [
+const PROGRAMS: [Row; 15] = [
     // Calls of calls.
     (
         REPLAY,
@@ -166,6 +166,70 @@ fn main() -> unit { nest((), 256) with [256] }
 ",
         "finished",
     ),
+    // A certificate that shows nothing.
+    (
+        REPLAY,
+        "fn need [x: x <= 0](a: int(x)) -> unit { ret () }
+fn f [x: 2*x <= 2](a: int(x)) -> unit {
+  need(a) with [x] by [{2: 1 #0}]
+}
+fn main() -> unit { ret () }
+",
+        "finished",
+    ),
+    // A certificate that shows nothing.
+    (
+        REPLAY,
+        "fn need [x: x <= 0](a: int(x)) -> unit { ret () }
+fn f [x: 2*x <= 1](a: int(x)) -> unit {
+  need(a) with [x] by [{2: 1 #1}]
+}
+fn main() -> unit { ret () }
+",
+        "finished",
+    ),
+    // A certificate that shows nothing.
+    (
+        REPLAY,
+        "fn need [x: x <= 0](a: int(x)) -> unit { ret () }
+fn f [x: 2*x <= 1](a: int(x)) -> unit {
+  need(a) with [x] by [{2: -1 #0}]
+}
+fn main() -> unit { ret () }
+",
+        "finished",
+    ),
+    // A certificate that shows nothing.
+    (
+        REPLAY,
+        "fn need [x: x <= 0](a: int(x)) -> unit { ret () }
+fn f [x: 2*x <= 1](a: int(x)) -> unit {
+  need(a) with [x] by [{1 #0}]
+}
+fn main() -> unit { ret () }
+",
+        "finished",
+    ),
+    // A call whose proof shows nothing.
+    (
+        REPLAY,
+        "fn need [x: x <= 0](a: int(x)) -> unit { print a; ret () }
+fn main() -> unit { need(5) with [7, 9223372036854775807 + 1] by [{2: -1 #9}] }
+",
+        "5 / finished",
+    ),
+    // An absurd that is not come to.
+    (
+        REPLAY,
+        "fn f [x: 1 <= x](a: int(x)) -> unit {
+  if a <= 0 {
+    absurd
+  } else { ret () }
+}
+fn main() -> unit { f(1) with [1] }
+",
+        "finished",
+    ),
 ];
 
 /// Texts with a form of sessions, most of them with faults of form besides.
@@ -225,7 +289,11 @@ fn layout_and_comments_change_nothing(rt: HostRuntime) -> Result<(), Fail> {
 fn sessions_do_not_run_yet(rt: HostRuntime) -> Result<(), Fail> {
     for text in SESSIONS.lines() {
         let (status, written) = answer(rt.alloc(), REPLAY, text.as_bytes())?;
-        assert_eq!(rt; written.as_slice(), b"refused not yet\n".as_slice(), "{text}");
+        assert_eq!(rt;
+            written.as_slice(),
+            b"refused not yet\n".as_slice(),
+            "{text}"
+        );
         assert_eq!(rt; status, 1, "{text}");
     }
     Ok(())
