@@ -8,3 +8,9 @@ pub mod Patterns
 pub mod Verdicts
 pub mod FirstNamed
 pub mod Divisors
+pub mod Mentioned
+pub mod Using
+pub mod Spans
+pub mod Noting
+pub mod Starting
+pub mod Searching

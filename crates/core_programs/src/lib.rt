@@ -3,12 +3,17 @@
 
 mod bodies;
 mod faults;
+mod follows;
 mod forms;
 mod indexes;
 mod mains;
+mod mentions;
+mod naming;
 mod nodes;
 mod passes;
+mod starts;
 mod tables;
+mod uses;
 mod walking;
 mod wellformed;
 

@@ -1,6 +1,7 @@
 //! Programs that are well formed.
 ghost use Rattle.std.specs.Prelude.{◌≡◌, ◌<◌, codes, length, IfSome, IfOk, IfErr};
 ghost use Rattle.std.specs.Option.{option_copied};
+ghost use Rattle.core_language.specs.Configurations.{names};
 ghost use Rattle.core_programs.specs.Bodies.{opened, rest, func_named};
 ghost use Rattle.core_programs.specs.Formed.{IsNumbered, HasDivisor, LeadBelow};
 ghost use Rattle.core_programs.specs.Form.{IsFormed, IsBuildFault, HasForm};
@@ -8,7 +9,10 @@ ghost use Rattle.core_programs.specs.Form.{IsFormed, IsBuildFault, HasForm};
 use crate::faults::BuildFault;
 use crate::forms::first_fault;
 use crate::indexes::{find_indexed, index_funcs};
+use crate::naming::has_use;
 use crate::nodes::{Func, Node, Parts};
+use crate::starts::find_starts;
+use crate::uses::{Uses, has_between, index_uses, uses_of};
 use chan_syntax::Ident;
 use std::alloc::Global;
 use std::collections::BTreeMap;
@@ -19,6 +23,8 @@ use std::marker::Model;
 pub struct Program {
     parts: Parts,
     places: BTreeMap<Ident, usize>,
+    uses: Uses,
+    starts: Option<Vec<u32>>,
 }
 
 impl Model for Program {
@@ -31,10 +37,11 @@ impl Model for Program {
 
     ghost use Rattle.core_programs.specs.Bodies.{LeadsToFirst};
     ghost use Rattle.core_programs.specs.Form.{IsFormed};
+    ghost use Rattle.core_programs.specs.Uses.{LeadsToUses, AreStarts};
 
     ghost view = { λ p. p.parts };
 
-    ghost invariant = { λ p. IsFormed p.parts × LeadsToFirst p.parts.funcs p.places };
+    ghost invariant = { λ p. IsFormed p.parts × LeadsToFirst p.parts.funcs p.places × LeadsToUses p.parts.nodes p.uses × AreStarts p.parts.nodes p.starts };
 }
 
 impl Program {
@@ -48,7 +55,14 @@ impl Program {
             Some(ill) => Err(BuildFault::Ill(ill)),
             None => {
                 let places = index_funcs(alloc, parts.funcs.as_slice())?;
-                Ok(Program { parts, places })
+                let uses = index_uses(alloc, parts.nodes.as_slice())?;
+                let starts = find_starts(alloc, parts.nodes.as_slice())?;
+                Ok(Program {
+                    parts,
+                    places,
+                    uses,
+                    starts,
+                })
             }
         }
     }
@@ -70,6 +84,21 @@ impl Program {
         let parts = self.parts();
         let nodes = parts.nodes.as_slice();
         &nodes[number as usize]
+    }
+
+    /// Whether the body at the node with this number names the variable.
+    pub fn names(&self, number: u32, name: &Ident) -> bool
+        requires { number < length self.now.nodes }
+        ensures { result ≡ names (rest self.now.nodes number) name.now }
+    {
+        let numbers = uses_of(&self.uses, name);
+        match &self.starts {
+            Some(starts) => {
+                let starts = starts.as_slice();
+                has_between(numbers, starts[number as usize], number)
+            }
+            None => has_use(self.parts(), numbers, number),
+        }
     }
 
     /// The function with this name.

@@ -3,7 +3,6 @@ pub mod Reading
 pub mod Troubles
 pub mod Kinds
 pub mod Fits
-pub mod Naming
 pub mod Moving
 pub mod Sharing
 pub mod Channels

@@ -7,7 +7,6 @@ mod calls;
 mod computing;
 mod entering;
 mod moving;
-mod naming;
 mod quiet;
 mod sharing;
 mod stops;

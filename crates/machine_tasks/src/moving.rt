@@ -7,7 +7,6 @@ ghost use Rattle.machine_tasks.specs.Fits.{FramesFit};
 ghost use Rattle.machine_tasks.specs.Reading.{env_of, place_of, value_as};
 ghost use Rattle.machine_tasks.specs.Moving.{at_node, bound_in, HasRoom};
 
-use crate::naming::is_named;
 use crate::tasks::{Bind, Binds, Frame, Task};
 use chan_base::Memory;
 use core_programs::Program;
@@ -19,7 +18,7 @@ pub(crate) fn keep(program: &Program, binds: &mut Binds, node: u32)
 {
     let mut at = 0;
     'binds: while at < binds.len() {
-        if is_named(program, node, &binds[at].name) {
+        if program.names(node, &binds[at].name) {
             at += 1;
         } else {
             let _dropped = binds.remove(at);

@@ -1,7 +1,0 @@
-use Rattle.std.proofs.Common.{◌≡◌, drop, map}
-use Rattle.core_language.specs.Configurations.{in_term}
-use Rattle.chan_syntax.specs.Reading.{term_of, part_of}
-use Rattle.machine_tasks.proofs.naming.in_term.Given as goal
-
-abbrev pub invariant-parts : goal.invariant-parts
-invariant-parts l = in_term l.name (map part_of (drop l.part-index l.fn.term.parts)) ≡ in_term l.name (term_of l.fn.term)
