@@ -1,7 +1,7 @@
 -- Which act a task has, by the kind of it.
 use Rattle.std.proofs.Common.{◌≡◌, ℤ}
 use Rattle.core_language.specs.Acts as act
-use Rattle.machine_tasks.specs.Kinds.{Kind, Fork, Send, Recv, Print, kind_of}
+use Rattle.machine_tasks.specs.Kinds.{Fork, Send, Recv, Print, kind_of}
 use Rattle.machine_tasks.specs.Moving.{IsQuiet}
 use Rattle.machine_tasks.specs.Sharing.{IsFork, IsSend, IsRecv}
 

@@ -1,6 +1,4 @@
 //! Programs of texts.
-ghost use Rattle.std.specs.Prelude.{◌<◌, length};
-
 use chan_base::{Memory, Name};
 use chan_lexer::tokens;
 use chan_parser::parse;
@@ -14,9 +12,10 @@ fn child(y: end ~Five()) -> unit { send1 y 5; ret () }
 fn main() -> unit { let c = fork Five() child(); let v = recv1 c; print v; ret () }";
 
 /// The program of a text of the core language without a fault.
-pub(crate) fn program(alloc: Global, text: &[u8]) -> Result<Program, Memory>
-    requires { length text.now < 4294967295 }
-{
+pub(crate) fn program(alloc: Global, text: &[u8]) -> Result<Program, Memory> {
+    if text.len() >= 1000000 {
+        return Err(Memory);
+    }
     let Ok(tokens) = tokens(alloc, text) else {
         return Err(Memory);
     };
