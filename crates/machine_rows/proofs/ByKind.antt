@@ -1,0 +1,50 @@
+-- Which act a task has, by the kind of it.
+use Rattle.std.proofs.Common.{◌≡◌, ℤ}
+use Rattle.core_language.specs.Acts as act
+use Rattle.machine_tasks.specs.Kinds.{Fork, Send, Recv, Print, kind_of}
+use Rattle.machine_tasks.specs.Moving.{IsQuiet}
+use Rattle.machine_tasks.specs.Sharing.{IsFork, IsSend, IsRecv}
+
+pub prints : (a : act.Act) (z : ℤ) → kind_of a ≡ Print z → IsQuiet a
+prints (act.Silent place) z e = tt
+prints (act.Print y place) z e = tt
+prints (act.Fork child parent its) z e = let bad : ⊥ = cc in absurd bad
+prints (act.Send channel v place) z e = let bad : ⊥ = cc in absurd bad
+prints (act.Recv channel place) z e = let bad : ⊥ = cc in absurd bad
+prints act.End z e = tt
+prints act.IsEnded z e = let bad : ⊥ = cc in absurd bad
+prints (act.IsHalted why) z e = let bad : ⊥ = cc in absurd bad
+prints (act.IsStuck why) z e = let bad : ⊥ = cc in absurd bad
+
+pub forks : (a : act.Act) → kind_of a ≡ Fork → IsFork a
+forks (act.Fork child parent its) e = tt
+forks (act.Silent place) e = let bad : ⊥ = cc in absurd bad
+forks (act.Print y place) e = let bad : ⊥ = cc in absurd bad
+forks (act.Send channel v place) e = let bad : ⊥ = cc in absurd bad
+forks (act.Recv channel place) e = let bad : ⊥ = cc in absurd bad
+forks act.End e = let bad : ⊥ = cc in absurd bad
+forks act.IsEnded e = let bad : ⊥ = cc in absurd bad
+forks (act.IsHalted why) e = let bad : ⊥ = cc in absurd bad
+forks (act.IsStuck why) e = let bad : ⊥ = cc in absurd bad
+
+pub sends : (a : act.Act) → kind_of a ≡ Send → IsSend a
+sends (act.Send channel v place) e = tt
+sends (act.Silent place) e = let bad : ⊥ = cc in absurd bad
+sends (act.Print y place) e = let bad : ⊥ = cc in absurd bad
+sends (act.Fork child parent its) e = let bad : ⊥ = cc in absurd bad
+sends (act.Recv channel place) e = let bad : ⊥ = cc in absurd bad
+sends act.End e = let bad : ⊥ = cc in absurd bad
+sends act.IsEnded e = let bad : ⊥ = cc in absurd bad
+sends (act.IsHalted why) e = let bad : ⊥ = cc in absurd bad
+sends (act.IsStuck why) e = let bad : ⊥ = cc in absurd bad
+
+pub receives : (a : act.Act) → kind_of a ≡ Recv → IsRecv a
+receives (act.Recv channel place) e = tt
+receives (act.Silent place) e = let bad : ⊥ = cc in absurd bad
+receives (act.Print y place) e = let bad : ⊥ = cc in absurd bad
+receives (act.Fork child parent its) e = let bad : ⊥ = cc in absurd bad
+receives (act.Send channel v place) e = let bad : ⊥ = cc in absurd bad
+receives act.End e = let bad : ⊥ = cc in absurd bad
+receives act.IsEnded e = let bad : ⊥ = cc in absurd bad
+receives (act.IsHalted why) e = let bad : ⊥ = cc in absurd bad
+receives (act.IsStuck why) e = let bad : ⊥ = cc in absurd bad

@@ -1,0 +1,128 @@
+//! Steps and whole runs.
+ghost use Rattle.std.specs.Prelude.{◌≤◌};
+
+use crate::programs::{SENDS_FIVE, is_first, program};
+use chan_base::{Memory, Name};
+use chan_machine::{
+    Ending, Entries, Event, Replayed, Stepped, StuckWhy, Value, look, replay, start, step,
+};
+use core_programs::Program;
+use std::alloc::Global;
+use std::test::Fail;
+
+/// What the entry with this number shows, where it has this time and is of `main` or of its child.
+fn shown(entries: &Entries, number: usize, time: u64, of_main: bool) -> Option<&Event> {
+    let entry = entries.get(number)?;
+    if entry.time == time && (entry.name.parts() == 0) == of_main {
+        Some(&entry.event)
+    } else {
+        None
+    }
+}
+
+#[test]
+fn a_run_has_its_entries_in_order(rt: HostRuntime) -> Result<(), Fail> {
+    let alloc = rt.alloc();
+    let program = program(alloc, SENDS_FIVE)?;
+    let Replayed { entries, .. } = replay(alloc, &program, 100)?;
+    assert_eq!(rt; entries.len(), 6);
+    assert!(rt; matches!(shown(&entries, 0, 1, true), Some(Event::Fork(_))));
+    assert!(rt; matches!(shown(&entries, 1, 2, false), Some(Event::Send(_))));
+    assert!(rt; matches!(shown(&entries, 2, 3, true), Some(Event::Recv(_))));
+    assert!(rt; matches!(shown(&entries, 3, 3, false), Some(Event::End)));
+    assert!(rt; matches!(shown(&entries, 4, 4, true), Some(Event::Print(5))));
+    assert!(rt; matches!(shown(&entries, 5, 5, true), Some(Event::End)));
+    Ok(())
+}
+
+/// How the run of the text ends.
+fn ending(alloc: Global, text: &[u8], rounds: u64) -> Result<Ending, Memory>
+    requires { rounds ≤ 1000000000 }
+{
+    let program = program(alloc, text)?;
+    let Replayed { ending, .. } = replay(alloc, &program, rounds)?;
+    Ok(ending)
+}
+
+#[test]
+fn a_run_ends_with_its_tasks(rt: HostRuntime) -> Result<(), Fail> {
+    let alloc = rt.alloc();
+    let ended = ending(alloc, SENDS_FIVE, 4)?;
+    assert!(rt; matches!(&ended, Ending::Rounds));
+    let ended = ending(alloc, SENDS_FIVE, 5)?;
+    assert!(rt; matches!(&ended, Ending::Finished));
+    Ok(())
+}
+
+#[test]
+fn a_run_ends_stuck_or_out_of_range(rt: HostRuntime) -> Result<(), Fail> {
+    let alloc = rt.alloc();
+    let ended = ending(alloc, b"fn main() -> unit { absurd }", 9)?;
+    assert!(rt; matches!(&ended, Ending::Stuck(_, StuckWhy::Absurd)));
+    let text = b"fn main() -> unit { let a = 9223372036854775807 + 1 - 1; ret () }";
+    let ended = ending(alloc, text, 9)?;
+    assert!(rt; matches!(&ended, Ending::Range(_)));
+    Ok(())
+}
+
+#[test]
+fn who_waits_for_ever_counts_before_what_is_left(rt: HostRuntime) -> Result<(), Fail> {
+    let alloc = rt.alloc();
+    let text = b"proto Five() = recv int(5);
+fn child(y: end ~Five()) -> unit { ret () }
+fn main() -> unit { let c = fork Five() child(); let v = recv1 c; ret () }";
+    let ended = ending(alloc, text, 9)?;
+    assert!(rt; matches!(&ended, Ending::Deadlocked(_)));
+    let text = b"proto Five() = recv int(5);
+fn child(y: end ~Five()) -> unit { send1 y 5; ret () }
+fn main() -> unit { let c = fork Five() child(); ret () }";
+    let ended = ending(alloc, text, 9)?;
+    assert!(rt; matches!(&ended, Ending::Leaked(_)));
+    Ok(())
+}
+
+fn is_first_fork(stepped: &Stepped) -> bool {
+    match stepped {
+        Stepped::Moved(Event::Fork(name)) => is_first(name),
+        _ => false,
+    }
+}
+
+/// What a look at `main` answers at the start.
+fn first_look(alloc: Global, program: &Program) -> Result<Stepped, Memory> {
+    let config = start(alloc, program)?;
+    let main = Name::root(alloc);
+    let looked = look(alloc, program, &config, &main)?;
+    Ok(looked)
+}
+
+/// What a step of `main` answers at the start.
+fn first_step(alloc: Global, program: &Program) -> Result<Stepped, Memory> {
+    let mut config = start(alloc, program)?;
+    let main = Name::root(alloc);
+    let stepped = step(alloc, program, &mut config, &main)?;
+    Ok(stepped)
+}
+
+#[test]
+fn main_forks_first(rt: HostRuntime) -> Result<(), Fail> {
+    let alloc = rt.alloc();
+    let program = program(alloc, SENDS_FIVE)?;
+    let looked = first_look(alloc, &program)?;
+    assert!(rt; is_first_fork(&looked));
+    let stepped = first_step(alloc, &program)?;
+    assert!(rt; is_first_fork(&stepped));
+    Ok(())
+}
+
+#[test]
+fn a_run_comes_to_a_configuration(rt: HostRuntime) -> Result<(), Fail> {
+    let alloc = rt.alloc();
+    let program = program(alloc, SENDS_FIVE)?;
+    let Replayed { config, .. } = replay(alloc, &program, 2)?;
+    let first = Name::root(alloc).child(alloc, 0)?;
+    assert!(rt; matches!(config.stored(&first), Some(Value::Int(5))));
+    assert!(rt; matches!(config.frames(&first), Some(frames) if frames.len() == 1));
+    assert!(rt; config.prints().is_empty());
+    Ok(())
+}
