@@ -1,6 +1,6 @@
 //! Cases of normal forms.
 use crate::spelling::{push, push_number};
-use crate::trees::{Times, names, term};
+use crate::trees::{NONE, Times, names, term};
 use chan_base::Memory;
 use chan_syntax::Ident;
 use farkas_check::Row;
@@ -18,11 +18,11 @@ fn vars(alloc: Global) -> Result<IntVars, Memory> {
     let mut vars = Items::new(alloc);
     vars.push(IntVar {
         name: Ident::from_slice(alloc, b"a")?,
-        term: term(alloc, &[(2, b"n"), (1, b"")])?,
+        term: term(alloc, &[(2, b'n'), (1, NONE)])?,
     })?;
     vars.push(IntVar {
         name: Ident::from_slice(alloc, b"k")?,
-        term: term(alloc, &[(1, b"m"), (5, b"")])?,
+        term: term(alloc, &[(1, b'm'), (5, NONE)])?,
     })?;
     Ok(vars)
 }
@@ -55,7 +55,7 @@ fn push_fault(out: &mut Vec<u8>, fault: &TermFault) -> Result<(), Memory> {
 }
 
 /// The row of a term, or its fault, as a text.
-fn answer(alloc: Global, times: &[Times<'_>]) -> Result<Vec<u8>, Memory> {
+fn answer(alloc: Global, times: &[Times]) -> Result<Vec<u8>, Memory> {
     let mut out = Vec::new(alloc);
     match normal(alloc, &term(alloc, times)?, &context(alloc)?) {
         Ok(row) => push_row(alloc, &mut out, &row)?,
@@ -66,22 +66,22 @@ fn answer(alloc: Global, times: &[Times<'_>]) -> Result<Vec<u8>, Memory> {
 
 #[test]
 fn a_term_has_one_row(rt: HostRuntime) -> Result<(), Fail> {
-    let rows: [(&[Times<'_>], &[u8]); 12] = [
+    let rows: [(&[Times], &[u8]); 12] = [
         (&[], b"0 0 0 | 0"),
-        (&[(1, b"n")], b"1 0 0 | 0"),
-        (&[(1, b"a")], b"2 0 0 | 1"),
-        (&[(-1, b"a")], b"-2 0 0 | -1"),
-        (&[(3, b"a"), (-1, b"n")], b"5 0 0 | 3"),
-        (&[(1, b"k")], b"0 1 0 | 5"),
-        (&[(1, b"n"), (1, b"n"), (1, b"m")], b"2 1 0 | 0"),
-        (&[(0, b"n"), (0, b"a")], b"0 0 0 | 0"),
-        (&[(MOST, b"n")], b"9223372036854775807 0 0 | 0"),
-        (&[(LEAST, b"")], b"0 0 0 | -9223372036854775808"),
+        (&[(1, b'n')], b"1 0 0 | 0"),
+        (&[(1, b'a')], b"2 0 0 | 1"),
+        (&[(-1, b'a')], b"-2 0 0 | -1"),
+        (&[(3, b'a'), (-1, b'n')], b"5 0 0 | 3"),
+        (&[(1, b'k')], b"0 1 0 | 5"),
+        (&[(1, b'n'), (1, b'n'), (1, b'm')], b"2 1 0 | 0"),
+        (&[(0, b'n'), (0, b'a')], b"0 0 0 | 0"),
+        (&[(MOST, b'n')], b"9223372036854775807 0 0 | 0"),
+        (&[(LEAST, NONE)], b"0 0 0 | -9223372036854775808"),
         (
-            &[(MOST, b"m"), (1, b"m"), (-1, b"m")],
+            &[(MOST, b'm'), (1, b'm'), (-1, b'm')],
             b"0 9223372036854775807 0 | 0",
         ),
-        (&[(1, b"a"), (-2, b"n"), (-1, b"")], b"0 0 0 | 0"),
+        (&[(1, b'a'), (-2, b'n'), (-1, NONE)], b"0 0 0 | 0"),
     ];
     for (times, want) in rows {
         assert_eq!(rt; answer(rt.alloc(), times)?.as_slice(), want);
@@ -91,13 +91,13 @@ fn a_term_has_one_row(rt: HostRuntime) -> Result<(), Fail> {
 
 #[test]
 fn a_fault_of_a_term_is_the_first(rt: HostRuntime) -> Result<(), Fail> {
-    let rows: [(&[Times<'_>], &[u8]); 6] = [
-        (&[(MOST, b""), (1, b"")], b"too large"),
-        (&[(LEAST, b"n"), (-1, b"n")], b"too large"),
-        (&[(MOST, b"a")], b"too large"),
-        (&[(1, b"c")], b"no integer c"),
-        (&[(1, b"d"), (1, b"c")], b"no integer d"),
-        (&[(MOST, b"a"), (1, b"c")], b"no integer c"),
+    let rows: [(&[Times], &[u8]); 6] = [
+        (&[(MOST, NONE), (1, NONE)], b"too large"),
+        (&[(LEAST, b'n'), (-1, b'n')], b"too large"),
+        (&[(MOST, b'a')], b"too large"),
+        (&[(1, b'c')], b"no integer c"),
+        (&[(1, b'd'), (1, b'c')], b"no integer d"),
+        (&[(MOST, b'a'), (1, b'c')], b"no integer c"),
     ];
     for (times, want) in rows {
         assert_eq!(rt; answer(rt.alloc(), times)?.as_slice(), want);

@@ -11,14 +11,17 @@ pub(crate) const NOWHERE: Span = Span {
     column: 1,
 };
 
-/// A name that counts so often, or a bare number where the name is empty.
-pub(crate) type Times<'a> = (i64, &'a [u8]);
+/// A name of one letter that counts so often, or a bare number at `NONE`.
+pub(crate) type Times = (i64, u8);
 
-fn part(alloc: Global, times: &Times<'_>) -> Result<Part, Memory> {
-    let name = if times.1.is_empty() {
+/// No name.
+pub(crate) const NONE: u8 = 0;
+
+fn part(alloc: Global, times: &Times) -> Result<Part, Memory> {
+    let name = if times.1 == NONE {
         None
     } else {
-        Some(Ident::from_slice(alloc, times.1)?)
+        Some(Ident::from_slice(alloc, &[times.1])?)
     };
     Ok(Part {
         negative: false,
@@ -28,7 +31,7 @@ fn part(alloc: Global, times: &Times<'_>) -> Result<Part, Memory> {
     })
 }
 
-pub(crate) fn term(alloc: Global, times: &[Times<'_>]) -> Result<Term, Memory> {
+pub(crate) fn term(alloc: Global, times: &[Times]) -> Result<Term, Memory> {
     let mut parts = Items::new(alloc);
     for one in times {
         parts.push(part(alloc, one)?)?;
@@ -65,7 +68,7 @@ pub(crate) fn pair(
     alloc: Global,
     outer: &[u8],
     inner: &[u8],
-    times: &[Times<'_>],
+    times: &[Times],
 ) -> Result<Res, Memory> {
     let int = res(alloc, inner, Shape::Int(term(alloc, times)?))?;
     let nothing = res(alloc, b"", Shape::Unit)?;
