@@ -12,17 +12,18 @@ use Rattle.session_layer.proofs.Said.{says_the_tree}
 use Rattle.core_language.specs.Rounds.{Entry, run_of}
 use Rattle.core_language.specs.Endings.{Ending, ending_of}
 use Rattle.core_language.specs.Endings as ending
-use Rattle.chan_base.specs.Stream.{Takes}
+use Rattle.chan_base.specs.Stream.{Takes, AppendsFront}
 use Rattle.chan_syntax.specs.declared.surface_tree.Surface.{Surface}
 use Rattle.chanl_words.specs.declared.Command.{Command}
 use Rattle.chanl_words.specs.declared.Command.TheVariants as command
 use Rattle.chanl_words.specs.Words.{Admits}
 use Rattle.chanl_words.proofs.OneCommand.{few_rounds}
-use Rattle.chanl_lines.specs.Lines.{run_text}
+use Rattle.chanl_lines.specs.Lines.{run_text, usage}
 use Rattle.chanl_top.specs.declared.status.Status.{Status}
+use Rattle.chanl_top.specs.declared.status.Status.TheVariants as status
 use Rattle.chanl_top.specs.declared.verdicts.Verdict.{Verdict}
 use Rattle.chanl_top.specs.Verdict.{refusal, longest, ending_status, replayed, IsFmtVerdict, IsTreeVerdict, IsReplayVerdict, IsTextVerdict, IsCommandVerdict, IsVerdict}
-use Rattle.chanl_top.specs.Decided.{AreFew, IsSettled, Decides, Finishes}
+use Rattle.chanl_top.specs.Decided.{AreFew, IsOfText, IsSettled, Decides, Finishes, TellsUsage}
 
 -- all was read, so the bytes are those that were left
 all_read : (old new : Option (List ℕ)) (bytes all : List ℕ) → Consumes old new bytes → IsAtEnd new → old ≡ Some all → bytes ≡ all
@@ -41,34 +42,49 @@ many_read (Some xs) (Some ys) limit all (bytes, took, long) is =
     let count : length all ≡ length bytes + length ys = ap length (sym same ∙ took) ∙ length-append bytes ys in
     omega arith
 
--- ---- settled answers
+-- ---- the answers of commands on a text
 
-settled_ending : (e : Ending) → IsSettled (ending_status e)
-settled_ending ending.Finished = tt
-settled_ending ending.Rounds = tt
-settled_ending (ending.OutOfRange p) = tt
-settled_ending (ending.TooDeep p) = tt
-settled_ending (ending.Stuck p why) = tt
-settled_ending (ending.Deadlocked ps) = tt
-settled_ending (ending.Leaked cs) = tt
+ending_is_of_text : (e : Ending) → IsOfText (ending_status e)
+ending_is_of_text ending.Finished = tt
+ending_is_of_text ending.Rounds = tt
+ending_is_of_text (ending.OutOfRange p) = tt
+ending_is_of_text (ending.TooDeep p) = tt
+ending_is_of_text (ending.Stuck p why) = tt
+ending_is_of_text (ending.Deadlocked ps) = tt
+ending_is_of_text (ending.Leaked cs) = tt
 
-settled_fmt : (text : List ℕ) (v : Verdict) → IsFmtVerdict text v → IsSettled v.status
-settled_fmt text v (inl (tree, reads, is)) = subst (λ (u : Verdict). IsSettled u.status) (sym is) tt
-settled_fmt text v (inr (line, unread, is)) = subst (λ (u : Verdict). IsSettled u.status) (sym is) tt
+fmt_is_of_text : (text : List ℕ) (v : Verdict) → IsFmtVerdict text v → IsOfText v.status
+fmt_is_of_text text v (inl (tree, reads, is)) = subst (λ (u : Verdict). IsOfText u.status) (sym is) tt
+fmt_is_of_text text v (inr (line, unread, is)) = subst (λ (u : Verdict). IsOfText u.status) (sym is) tt
 
-settled_tree : (tree : Surface) (rounds : ℕ) (v : Verdict) → IsTreeVerdict tree rounds v → IsSettled v.status
-settled_tree tree rounds v (inl (core, (parts, lowered, inl (form, is)))) =
-    subst (λ (u : Verdict). IsSettled u.status) (sym is) (settled_ending (ending_of (program_in tree) (run_of (program_in tree) rounds).config))
-settled_tree tree rounds v (inl (core, (parts, lowered, inr (ill, fault, is)))) = subst (λ (u : Verdict). IsSettled u.status) (sym is) tt
-settled_tree tree rounds v (inr (session, is)) = subst (λ (u : Verdict). IsSettled u.status) (sym is) tt
+tree_is_of_text : (tree : Surface) (rounds : ℕ) (v : Verdict) → IsTreeVerdict tree rounds v → IsOfText v.status
+tree_is_of_text tree rounds v (inl (core, (parts, lowered, inl (form, is)))) =
+    subst (λ (u : Verdict). IsOfText u.status) (sym is) (ending_is_of_text (ending_of (program_in tree) (run_of (program_in tree) rounds).config))
+tree_is_of_text tree rounds v (inl (core, (parts, lowered, inr (ill, fault, is)))) = subst (λ (u : Verdict). IsOfText u.status) (sym is) tt
+tree_is_of_text tree rounds v (inr (session, is)) = subst (λ (u : Verdict). IsOfText u.status) (sym is) tt
 
-settled_replay : (rounds : ℕ) (text : List ℕ) (v : Verdict) → IsReplayVerdict rounds text v → IsSettled v.status
-settled_replay rounds text v (inl (tree, reads, is)) = settled_tree tree rounds v is
-settled_replay rounds text v (inr (line, unread, is)) = subst (λ (u : Verdict). IsSettled u.status) (sym is) tt
+replay_is_of_text : (rounds : ℕ) (text : List ℕ) (v : Verdict) → IsReplayVerdict rounds text v → IsOfText v.status
+replay_is_of_text rounds text v (inl (tree, reads, is)) = tree_is_of_text tree rounds v is
+replay_is_of_text rounds text v (inr (line, unread, is)) = subst (λ (u : Verdict). IsOfText u.status) (sym is) tt
 
-settled_text : (command : Command) (text : List ℕ) (v : Verdict) → IsTextVerdict command text v → IsSettled v.status
-settled_text command.Fmt text v is = settled_fmt text v is
-settled_text (command.Replay rounds) text v is = settled_replay rounds text v is
+answer_is_of_text : (command : Command) (text : List ℕ) (v : Verdict) → IsTextVerdict command text v → IsOfText v.status
+answer_is_of_text command.Fmt text v is = fmt_is_of_text text v is
+answer_is_of_text (command.Replay rounds) text v is = replay_is_of_text rounds text v is
+
+settles : (s : Status) → IsOfText s → IsSettled s
+settles status.Done is = tt
+settles status.TextRefused is = tt
+settles status.OutlineRefused is = tt
+settles status.Stopped is = tt
+settles status.BadEnding is = tt
+settles status.Usage is = tt
+settles status.ReadFault is = is
+settles status.WriteFault is = is
+settles status.Memory is = is
+
+-- words that are admitted are answered by no usage line
+pub no_usage : (command : Command) (text : List ℕ) (v : Verdict) → IsTextVerdict command text v → v.status ≡ status.Usage → ⊥
+no_usage command text v is usage = subst IsOfText usage (answer_is_of_text command text v is)
 
 -- ---- what was decided
 
@@ -94,7 +110,7 @@ pub decides_text : (command : Command) (left new : Option (List ℕ)) (before no
     → Consumes left new bytes → IsAtEnd new → length bytes ≤ longest → Decides (IsCommandVerdict command) left before now v
 decides_text command left new before now v text bytes same is took over few =
     inr (
-      settled_text command text v is,
+      settles v.status (answer_is_of_text command text v is),
       λ all told.
           let whole : bytes ≡ all = all_read left new bytes all took over told in
           inl (subst (λ (xs : List ℕ). length xs ≤ longest) whole few, subst (λ t. IsTextVerdict command t v) (same ∙ whole) is),
@@ -121,3 +137,16 @@ finished Answers left holds after before now risen fallen v text result decides 
 finished Answers left holds after before now risen fallen v text result (inl (is, line, rose)) written (inl (same, all)) settled bytes told = absurd (subst IsSettled (same ∙ is) settled)
 finished Answers left holds after before now risen fallen v text result (inr (ok, answers)) written (inl (same, all)) settled bytes told =
     (v.output, subst (λ s. Answers bytes (record { status = s; output = v.output })) (sym same) (answers bytes told), subst (Appends holds after) written all)
+
+-- the usage line comes whole, or a front of it
+pub tells_usage : (holds after : Option (List ℕ)) (risen fallen : ℕ) (v : Verdict) (text : List ℕ) (result : Status)
+    → v ≡ record { status = status.Usage; output = usage } → text ≡ v.output → Finishes holds after risen fallen v.status text result → TellsUsage holds after result
+tells_usage holds after risen fallen v text result is written (inl (same, all)) =
+    subst (TellsUsage holds after) (sym (same ∙ ap (λ (u : Verdict). u.status) is)) (subst (Appends holds after) (written ∙ ap (λ (u : Verdict). u.output) is) all)
+tells_usage holds after risen fallen v text result is written (inr (same, rose, front)) =
+    subst (TellsUsage holds after) (sym same) (subst (AppendsFront holds after) (written ∙ ap (λ (u : Verdict). u.output) is) front)
+
+pub wrote_no_usage : (holds after : Option (List ℕ)) (risen fallen : ℕ) (s result : Status) (text : List ℕ) → (s ≡ status.Usage → ⊥)
+    → Finishes holds after risen fallen s text result → result ≡ status.Usage → ⊥
+wrote_no_usage holds after risen fallen s result text other (inl (same, all)) is = other (sym same ∙ is)
+wrote_no_usage holds after risen fallen s result text other (inr (same, rose, front)) is = cc

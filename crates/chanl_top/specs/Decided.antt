@@ -2,7 +2,7 @@
 use Rattle.std.specs.Prelude.{◌≡◌, ℕ, ◌≤◌, ◌⊎◌, List, [], length, Option, Some}
 use Rattle.std.specs.Io.KnownBytes.{Appends}
 use Rattle.chan_base.specs.Stream.{Rose, AppendsFront}
-use Rattle.chanl_lines.specs.Lines.{read_fault}
+use Rattle.chanl_lines.specs.Lines.{read_fault, usage}
 use Rattle.chanl_words.specs.declared.Command.{Command}
 use Rattle.chanl_words.specs.declared.Command.TheVariants as command
 use Rattle.chanl_words.specs.Words.{most_rounds}
@@ -22,6 +22,18 @@ IsSettled status.BadEnding = Unit {0}
 IsSettled status.ReadFault = ⊥
 IsSettled status.WriteFault = ⊥
 IsSettled status.Memory = ⊥
+
+-- a status that a command on a text comes to, whatever becomes of its output
+abbrev pub IsOfText : Status → Type 0
+IsOfText status.Done = Unit {0}
+IsOfText status.TextRefused = Unit {0}
+IsOfText status.OutlineRefused = Unit {0}
+IsOfText status.Stopped = Unit {0}
+IsOfText status.BadEnding = Unit {0}
+IsOfText status.Usage = ⊥
+IsOfText status.ReadFault = ⊥
+IsOfText status.WriteFault = ⊥
+IsOfText status.Memory = ⊥
 
 -- a status that only a program that was read comes to
 abbrev pub IsOfProgram : Status → Type 0
@@ -49,6 +61,18 @@ ReadsWhole old new s = IsSettled s → (bytes : List ℕ) → old ≡ Some bytes
 abbrev pub Finishes : Option (List ℕ) → Option (List ℕ) → ℕ → ℕ → Status → List ℕ → Status → Type 0
 Finishes old new before now s text result =
     ((result ≡ s) × Appends old new text) ⊎ ((result ≡ status.WriteFault) × Rose before now × AppendsFront old new text)
+
+-- what words that are no command come to: the usage line, a front of it, or want of memory
+abbrev pub TellsUsage : Option (List ℕ) → Option (List ℕ) → Status → Type 0
+TellsUsage old new status.Usage = Appends old new usage
+TellsUsage old new status.WriteFault = AppendsFront old new usage
+TellsUsage old new status.Memory = Unit {0}
+TellsUsage old new status.Done = ⊥
+TellsUsage old new status.TextRefused = ⊥
+TellsUsage old new status.OutlineRefused = ⊥
+TellsUsage old new status.Stopped = ⊥
+TellsUsage old new status.ReadFault = ⊥
+TellsUsage old new status.BadEnding = ⊥
 
 -- a replay has no more rounds than the option takes
 abbrev pub AreFew : Command → Type 0

@@ -3,9 +3,9 @@ ghost use Rattle.std.specs.Prelude.{◌≡◌, ℕ, ◌≤◌, ◌⊎◌, List, 
 ghost use Rattle.std.specs.Io.KnownBytes.{Appends, IsAtEnd};
 ghost use Rattle.chan_base.specs.Stream.{Rose, AppendsFront};
 ghost use Rattle.chanl_words.specs.Words.{Admits, IsUsage};
-ghost use Rattle.chanl_lines.specs.Lines.{read_fault};
+ghost use Rattle.chanl_lines.specs.Lines.{read_fault, usage};
 ghost use Rattle.chanl_top.specs.Verdict.{IsVerdict, IsCommandVerdict};
-ghost use Rattle.chanl_top.specs.Decided.{AreFew, IsSettled, IsOfProgram, ReadsWhole, Decides, Finishes};
+ghost use Rattle.chanl_top.specs.Decided.{AreFew, IsSettled, IsOfProgram, ReadsWhole, Decides, Finishes, TellsUsage};
 
 use crate::status::Status;
 use crate::verdicts::{Verdict, answer_to};
@@ -40,6 +40,7 @@ fn read_and_answer<S: Source>(
     ensures answer { IfOk result (Decides (IsCommandVerdict command) (S.left source.old) (S.faults source.old) (S.faults source.new)) }
     ensures whole { IfOk result (λ v. ReadsWhole (S.left source.old) (S.left source.new) v.status) }
     ensures of_program { IfOk result (λ v. IsOfProgram v.status → IsAtEnd (S.left source.new)) }
+    ensures admitted { IfOk result (λ v. v.status ≡ Status.Usage → ⊥) }
     ensures later { S.faults source.old ≤ S.faults source.new }
 {
     match read_all(alloc, source, LONGEST) {
@@ -71,6 +72,8 @@ fn decide<S: Source>(alloc: Global, words: &[String], source: &mut S) -> Result<
     ensures whole { (command : Command) → Admits (map string_bytes words.now) command → IfOk result (λ v. ReadsWhole (S.left source.old) (S.left source.new) v.status) }
     ensures of_program { IfOk result (λ v. IsOfProgram v.status → IsAtEnd (S.left source.new)) }
     ensures unread { IsUsage (map string_bytes words.now) → source.new ≡ source.old }
+    ensures usage { IsUsage (map string_bytes words.now) → IfOk result (λ v. v ≡ record { status = Status.Usage; output = usage }) }
+    ensures admitted { (command : Command) → Admits (map string_bytes words.now) command → IfOk result (λ v. v.status ≡ Status.Usage → ⊥) }
     ensures later { S.faults source.old ≤ S.faults source.new }
 {
     match Command::of(words) {
@@ -100,6 +103,10 @@ pub fn top<S: Source, K: Sink>(
     ensures verdict { IsSettled result → (bytes : List ℕ) → S.left source.old ≡ Some bytes
         → (output : List ℕ) × IsVerdict (map string_bytes words.now) bytes (record { status = result; output = output })
         × Appends (K.holds sink.old) (K.holds sink.new) output }
+
+    // Usage comes exactly where the words are no command, also where the source tells no bytes.
+    ensures usage { IsUsage (map string_bytes words.now) → TellsUsage (K.holds sink.old) (K.holds sink.new) result }
+    ensures admitted { (command : Command) → Admits (map string_bytes words.now) command → result ≡ Status.Usage → ⊥ }
 
     // A fault has its cause.
     ensures read_fault { result ≡ Status.ReadFault → Rose (S.faults source.old) (S.faults source.new)
