@@ -1,5 +1,3 @@
-
-
 pub returns-in_ok-verdict-in-Some-clause-usage : goal.returns-in_ok-verdict-in-Some-clause-usage
 returns-in_ok-verdict-in-Some-clause-usage g c = λ none. absurd (none _ c.in-Some.ensures.some)
 

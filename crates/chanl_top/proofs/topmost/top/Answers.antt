@@ -1,5 +1,3 @@
-
-
 pub returns-in-Ok-clause-usage : goal.returns-in-Ok-clause-usage
 returns-in-Ok-clause-usage g c = λ none. tells_usage _ _ _ _ _ _ _ (c.in-Ok.ensures.usage none) c.as_slice.ensures c.finish.ensures.ends
 
