@@ -1,5 +1,5 @@
 -- What becomes of the values of a frame.
-use Rattle.std.proofs.Common.{◌≡◌, suc, Bool, true, false, cond, not, ◌&&◌, ◌||◌, List, [], ◌∷◌, ◌++◌, length, Option, Some, None, ⊎_elim, refl, sym, ap, ◌∙◌, true≢false}
+use Rattle.std.proofs.Common.{◌≡◌, suc, Bool, true, false, cond, not, ◌&&◌, ◌||◌, List, [], ◌∷◌, ◌++◌, length, Some, None, ⊎_elim, refl, sym, ap, ◌∙◌, true≢false}
 use Rattle.std.specs.List.{list_any}
 use Rattle.std.proofs.lemmas.Bool.{cases_Bool}
 use Rattle.core_language.specs.Names.{Ident, same}
@@ -12,7 +12,7 @@ use Rattle.core_language.specs.Configurations.{in_term, in_supply, in_supplies, 
 use Rattle.core_language.specs.Acts.{bound, params_env}
 use Rattle.frame_laws.specs.Needs.{needs}
 use Rattle.frame_laws.specs.Fits.{HasValue}
-use Rattle.frame_laws.proofs.Tests.{same_is, either, past, or_more}
+use Rattle.frame_laws.proofs.Tests.{same_is, past, or_more}
 
 -- ---- values of variables
 

@@ -1,5 +1,5 @@
 -- What a body without faults needs is variables of its scope.
-use Rattle.std.proofs.Common.{◌≡◌, ℕ, zero, suc, Bool, true, false, not, ◌&&◌, ◌||◌, List, [], ◌∷◌, ◌++◌, map, length, ◌+◌, Option, Some, None, slice_get, unwrap_or, refl, sym, ap, ◌∙◌, subst}
+use Rattle.std.proofs.Common.{◌≡◌, ℕ, zero, suc, Bool, true, false, not, ◌&&◌, ◌||◌, List, [], ◌∷◌, ◌++◌, map, length, ◌+◌, Option, Some, None, slice_get, unwrap_or, refl, sym, subst}
 use Rattle.std.proofs.lemmas.Bool.{or_parts, or_from}
 use Rattle.core_language.specs.Names.{Ident, same}
 use Rattle.core_language.specs.Programs.{Body}
@@ -8,17 +8,13 @@ use Rattle.chan_syntax.specs.declared.identifiers.Span.{Span}
 use Rattle.chan_syntax.specs.declared.linear.Part.{Part}
 use Rattle.chan_syntax.specs.declared.linear.Term.{Term}
 use Rattle.chan_syntax.specs.declared.operands.Supply.{Supply, Unit, Pair', Left', Right', Sum, Row_of-Supply, end_of-Supply, more_of-Supply}
-use Rattle.chan_syntax.specs.declared.operands.Pat.{Pat}
 use Rattle.chan_syntax.specs.Reading.{part_of, term_of, supply_of, supply_in}
-use Rattle.form_faults.specs.declared.faults.Ill.{Ill}
-use Rattle.form_faults.specs.declared.sorts.Sort.TheVariants as sort
 use Rattle.form_faults.specs.declared.sorts.Naming.TheVariants as naming
 use Rattle.form_faults.specs.declared.sorts.Known.{Known}
 use Rattle.form_faults.specs.declared.signatures.Signature.{Signature}
-use Rattle.form_faults.specs.Faults.{unless}
 use Rattle.form_faults.specs.Scopes.{unscoped, Binder, bind_all, twice_all}
 use Rattle.form_faults.specs.Terms.{name_faults, part_faults, parts_faults, term_faults, use_faults, ref_faults}
-use Rattle.form_faults.specs.Operands.{supply_faults, supply_in_faults, supplies_faults, proof_faults, path_faults, pat_binders}
+use Rattle.form_faults.specs.Operands.{supply_faults, supply_in_faults, supplies_faults, path_faults, pat_binders}
 use Rattle.core_programs.specs.declared.nodes.Node.{Node}
 use Rattle.core_programs.specs.declared.nodes.Node.TheVariants as node
 use Rattle.core_programs.specs.Bodies.{opened, opened_at, rest_within}

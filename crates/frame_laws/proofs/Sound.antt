@@ -1,5 +1,5 @@
 -- The nodes of a well-formed program: which bodies follow at them, and which functions they find.
-use Rattle.std.proofs.Common.{◌≡◌, ℕ, zero, suc, ◌+◌, ◌<◌, Bool, true, false, cond, nat_eq, List, [], ◌∷◌, ◌++◌, map, length, Option, Some, None, slice_get, ⊎_elim, refl, sym, ap, ◌∙◌, subst, arith, eqb-true}
+use Rattle.std.proofs.Common.{◌≡◌, ℕ, zero, suc, ◌+◌, ◌<◌, Bool, true, false, cond, nat_eq, List, [], ◌∷◌, map, length, Option, Some, slice_get, ⊎_elim, refl, sym, ap, ◌∙◌, subst, arith, eqb-true}
 use Rattle.std.specs.List.{AllByRecursion, list_any}
 use Rattle.std.proofs.lemmas.List.{length-map}
 use Rattle.std.proofs.lemmas.Option.{slice_get_cases}
@@ -19,7 +19,7 @@ use Rattle.core_programs.specs.declared.nodes.Func.{Func}
 use Rattle.core_programs.specs.declared.nodes.Parts.{Parts}
 use Rattle.core_programs.specs.Bodies.{opened, rest, param_of, function_of, program_of}
 use Rattle.core_programs.specs.Formed.{nexts, Leads, IsNumbered}
-use Rattle.core_programs.specs.Trees.{at_number, tree, grown}
+use Rattle.core_programs.specs.Trees.{at_number, tree}
 use Rattle.core_programs.specs.Passes.{call_faults, operand_faults, first_binders, second_binders, body_faults, func_faults, funcs_faults, protos_faults, proto_signatures, func_signatures}
 use Rattle.core_programs.specs.Form.{IsFormed}
 use Rattle.core_programs.proofs.Forests.{rest_opened}

@@ -1,11 +1,11 @@
 -- The start of a well-formed program fits it: the function `main` has no parameters, and needs no variable.
-use Rattle.std.proofs.Common.{◌≡◌, ℕ, codes, Bool, true, false, cond, is_some, ◌&&◌, ◌||◌, if◌then◌else◌, true≢false, List, [], ◌∷◌, ◌++◌, map, Option, Some, None, refl, sym, ap, ◌∙◌, subst}
+use Rattle.std.proofs.Common.{◌≡◌, codes, Bool, true, false, cond, is_some, ◌&&◌, ◌||◌, if◌then◌else◌, true≢false, List, [], ◌∷◌, map, Option, Some, None, refl, sym, ap, ◌∙◌, subst}
 use Rattle.std.specs.List.{list_any}
 use Rattle.std.specs.Ordering.{nat_cmp}
 use Rattle.std.specs.Cmp.Lexicographic.{slice_cmp}
 use Rattle.std.specs.FinMap.{get, empty, get-empty}
 use Rattle.std.proofs.lemmas.Bool.{and_parts}
-use Rattle.core_language.specs.Names.{Name, NameMap, Ident, main, same}
+use Rattle.core_language.specs.Names.{Name, main, same}
 use Rattle.core_language.specs.Programs.{Function, function_named, main_function}
 use Rattle.core_language.specs.Programs as core
 use Rattle.core_language.specs.Configurations.{Task, started}

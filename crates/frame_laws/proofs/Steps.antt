@@ -1,5 +1,5 @@
 -- Each step keeps that frames have the values that they need.
-use Rattle.std.proofs.Common.{◌≡◌, ℕ, ℤ, suc, int_le, Bool, true, false, cond, not, ◌&&◌, ◌||◌, if◌then◌else◌, List, [], ◌∷◌, ◌++◌, length, Option, Some, None, refl, sym, ap, ◌∙◌, subst}
+use Rattle.std.proofs.Common.{◌≡◌, ℕ, suc, int_le, Bool, true, false, cond, not, ◌&&◌, ◌||◌, if◌then◌else◌, List, [], ◌∷◌, length, Option, Some, None, refl, sym, ap, ◌∙◌, subst}
 use Rattle.std.specs.List.{AllByRecursion}
 use Rattle.std.specs.Ordering.{nat_cmp, eq_by_cmp}
 use Rattle.std.specs.Cmp.Lexicographic.{slice_cmp, nat_list_cmp_total}
@@ -16,11 +16,11 @@ use Rattle.core_language.specs.Acts.{Act, with_result, at, bound, params_env, en
 use Rattle.core_language.specs.Acts as act
 use Rattle.core_language.specs.Steps.{effect, sent, received, step_at, after_step}
 use Rattle.core_programs.specs.declared.nodes.Parts.{Parts}
-use Rattle.core_programs.specs.Bodies.{rest, program_of}
+use Rattle.core_programs.specs.Bodies.{program_of}
 use Rattle.core_programs.specs.Form.{IsFormed}
 use Rattle.frame_laws.specs.Needs.{needs}
-use Rattle.frame_laws.specs.Fits.{HasValue, HasValues, StandsAtNode, IsCall, CallerFits, Fits, FitsAll}
-use Rattle.frame_laws.specs.Calls.{HasFunction, FindsFunction}
+use Rattle.frame_laws.specs.Fits.{HasValue, HasValues, StandsAtNode, CallerFits, Fits, FitsAll}
+use Rattle.frame_laws.specs.Calls.{HasFunction}
 use Rattle.frame_laws.specs.Laws.{FitsAfterSteps}
 use Rattle.frame_laws.proofs.Tests.{later}
 use Rattle.frame_laws.proofs.Sound.{follows, followers_stand, body_of, calls_find_functions}
@@ -132,13 +132,15 @@ module _ (parts : Parts) (formed : IsFormed parts) (limits : Limits) where
       result_fits parts (all_supplied limits env supplies) _ (λ vs made.
       enters func vs (length supplies) (record { name = pat.name; rest = next; env = kept next env } ∷ callers)
       (calls_find_functions parts formed (body.Call span pat func supplies proof next) (n, lt, is))
-      (supplied_length limits env supplies vs made)
-      (record {
-        call = n;
-        within = lt;
-        after_call = (span, pat, func, supplies, proof, sym is, refl);
-        has_values = λ x need other. kept_value next env x (needed_named next x need) (values x (later (in_supplies x supplies) (needs next x) (same pat.name x) need other));
-      }, fit))
+      (supplied_length limits env supplies vs made) (
+        record {
+          call = n;
+          within = lt;
+          after_call = (span, pat, func, supplies, proof, sym is, refl);
+          has_values = λ x need other. kept_value next env x (needed_named next x need) (values x (later (in_supplies x supplies) (needs next x) (same pat.name x) need other));
+        },
+        fit,
+      ))
   act_fits p forks (body.Tail span func supplies proof) env callers (stands, values, fit) =
       result_fits parts (all_supplied limits env supplies) _ (λ vs made.
       enters func vs (length supplies) callers (calls_find_functions parts formed (body.Tail span func supplies proof) stands) (supplied_length limits env supplies vs made) fit)

@@ -1,14 +1,13 @@
 -- Which names a scope has as variables.
-use Rattle.std.proofs.Common.{◌≡◌, Bool, true, false, cond, is_some, ◌&&◌, ◌||◌, true≢false, List, [], ◌∷◌, ◌++◌, map, Option, Some, None, ◌⊎◌, inl, inr, ⊎_elim, refl, sym, ap, ◌∙◌, subst}
+use Rattle.std.proofs.Common.{◌≡◌, Bool, true, false, cond, is_some, ◌&&◌, ◌||◌, true≢false, List, [], ◌∷◌, ◌++◌, map, Option, Some, None, ◌⊎◌, inl, inr, ⊎_elim, refl, sym, ap, ◌∙◌}
 use Rattle.std.specs.List.{list_any}
-use Rattle.std.proofs.lemmas.Bool.{or_cases, or_left, or_right, or_from, or_parts, and_from}
+use Rattle.std.proofs.lemmas.Bool.{or_left, or_right, or_from, or_parts, and_from}
 use Rattle.core_language.specs.Names.{Ident, same}
 use Rattle.core_language.specs.Programs as core
 use Rattle.chan_syntax.specs.declared.identifiers.Span.{Span}
 use Rattle.chan_syntax.specs.declared.linear.Bound.{Bound}
 use Rattle.chan_syntax.specs.declared.operands.Pat.{Pat}
 use Rattle.chan_syntax.specs.declared.resources.Param.{Param}
-use Rattle.form_faults.specs.declared.faults.Ill.{Ill}
 use Rattle.form_faults.specs.declared.sorts.Sort.{Sort}
 use Rattle.form_faults.specs.declared.sorts.Sort.TheVariants as sort
 use Rattle.form_faults.specs.declared.sorts.Naming.TheVariants as naming

@@ -1,5 +1,5 @@
 -- When a program fits a place, a task and a configuration: frames stand at its nodes, and have the values that they need.
-use Rattle.std.specs.Prelude.{◌≡◌, ℕ, ◌<◌, true, false, length, List, [], ◌∷◌, Some}
+use Rattle.std.specs.Prelude.{◌≡◌, ℕ, ◌<◌, true, false, length, List, Some}
 use Rattle.std.specs.List.{AllByRecursion}
 use Rattle.std.specs.FinMap.{get}
 use Rattle.core_language.specs.Names.{Name, Ident, same}
