@@ -1,7 +1,8 @@
 pub mod Tests
 pub mod Variables
 pub mod Scoped
-pub mod Sound
+pub mod Nodes
 pub mod Frames
 pub mod Steps
 pub mod Starts
+pub mod Runs

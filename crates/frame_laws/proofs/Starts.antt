@@ -24,7 +24,7 @@ use Rattle.frame_laws.specs.Fits.{Fits}
 use Rattle.frame_laws.specs.Laws.{FitsItsStart}
 use Rattle.frame_laws.proofs.Tests.{same_is, either, faultless, none_left, none_right}
 use Rattle.frame_laws.proofs.Variables.{still_in_scope, now_in_scope}
-use Rattle.frame_laws.proofs.Sound.{body_of}
+use Rattle.frame_laws.proofs.Nodes.{body_of}
 use Rattle.frame_laws.proofs.Steps.{put_fits}
 
 -- a name that is in scope and is bound is a fault

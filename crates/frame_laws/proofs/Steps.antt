@@ -23,7 +23,7 @@ use Rattle.frame_laws.specs.Fits.{HasValue, HasValues, StandsAtNode, CallerFits,
 use Rattle.frame_laws.specs.Calls.{HasFunction}
 use Rattle.frame_laws.specs.Laws.{FitsAfterSteps}
 use Rattle.frame_laws.proofs.Tests.{later}
-use Rattle.frame_laws.proofs.Sound.{follows, followers_stand, body_of, calls_find_functions}
+use Rattle.frame_laws.proofs.Nodes.{follows, followers_stand, body_of, calls_find_functions}
 use Rattle.frame_laws.proofs.Frames.{bound_value, kept_value, param_value, supplied_length, needed_named}
 
 -- the places of an act fit
