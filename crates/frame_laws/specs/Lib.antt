@@ -1,0 +1,4 @@
+pub mod Needs
+pub mod Fits
+pub mod Calls
+pub mod Laws
