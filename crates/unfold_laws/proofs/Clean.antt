@@ -1,11 +1,11 @@
 -- What scopes and terms are where no fault is found.
-use Rattle.std.proofs.Common.{◌≡◌, ◌⊎◌, inl, inr, Bool, true, false, ◌||◌, is_some, if◌then◌else◌, List, [], ◌∷◌, ◌++◌, All, map, flat_map, get_or, Option, Some, None, option_to_list, unwrap_or, refl, sym, ap, ◌∙◌, subst, append_assoc, append-nil}
+use Rattle.std.proofs.Common.{◌≡◌, ◌⊎◌, inl, inr, Bool, true, false, ◌||◌, is_some, if◌then◌else◌, List, [], ◌∷◌, ◌++◌, All, map, flat_map, get_or, Option, Some, None, option_to_list, unwrap_or, refl, sym, subst, append_assoc, append-nil}
 use Rattle.std.specs.List.{list_any}
 use Rattle.std.proofs.Math.Bool.{false≢true}
 use Rattle.std.proofs.lemmas.List.Elements.{All-nil, All-cons, All-append, All-head, All-tail}
 use Rattle.core_language.specs.Names.{Ident, same}
 use Rattle.linear_forms.specs.Normal.{names_of}
-use Rattle.linear_forms.specs.Substitution.{Scoped, scoped, terms_of_limit}
+use Rattle.linear_forms.specs.Substitution.{scoped, terms_of_limit}
 use Rattle.linear_forms.proofs.SameNames.{same_is, same-self}
 use Rattle.linear_forms.proofs.Shorts.{all_map}
 use Rattle.chan_syntax.specs.declared.identifiers.Span.{Span}

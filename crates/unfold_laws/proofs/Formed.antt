@@ -1,14 +1,12 @@
 -- The protocols of a program of form are well formed.
-use Rattle.std.proofs.Common.{◌≡◌, ℕ, zero, suc, Bool, true, false, nat_eq, if◌then◌else◌, List, [], ◌∷◌, ◌++◌, All, map, flat_map, length, Option, Some, None, refl, sym, ap, ◌∙◌, subst}
+use Rattle.std.proofs.Common.{◌≡◌, ℕ, Bool, true, false, nat_eq, if◌then◌else◌, List, [], ◌∷◌, ◌++◌, All, map, flat_map, length, Option, Some, None, refl, sym, ap, ◌∙◌, subst}
 use Rattle.std.proofs.lemmas.List.{length-map}
-use Rattle.std.proofs.lemmas.List.Elements.{All-nil, All-cons, All-append, All-head, All-tail}
+use Rattle.std.proofs.lemmas.List.Elements.{All-nil, All-cons, All-append}
 use Rattle.std.proofs.lemmas.Bool.{eqb-true}
 use Rattle.core_language.specs.Names.{Ident, same}
-use Rattle.core_language.specs.Terms as sum
 use Rattle.core_language.specs.Resources as resource
-use Rattle.linear_forms.specs.Substitution.{Scoped, scoped, terms_of_limit, terms_of_shape, terms_of_res}
+use Rattle.linear_forms.specs.Substitution.{scoped, terms_of_limit, terms_of_shape, terms_of_res}
 use Rattle.chan_syntax.specs.declared.identifiers.Span.{Span}
-use Rattle.chan_syntax.specs.declared.linear.Term.{Term}
 use Rattle.chan_syntax.specs.declared.linear.Bound.{Bound}
 use Rattle.chan_syntax.specs.declared.resources.Ref.{Ref}
 use Rattle.chan_syntax.specs.declared.resources.Shape.{Shape, Unit, Int, End, Pair', Sum', Row_of-Res, end_of-Res, more_of-Res}
@@ -16,15 +14,14 @@ use Rattle.chan_syntax.specs.declared.resources.Res.{Res}
 use Rattle.chan_syntax.specs.declared.resources.Equation.{Equation}
 use Rattle.chan_syntax.specs.declared.resources.Equation.TheVariants as equation
 use Rattle.chan_syntax.specs.declared.resources.Proto.{Proto}
-use Rattle.chan_syntax.specs.Reading.{term_of, limit_of, bound_of, ref_of, shape_of, res_in, res_of, equation_of, proto_of}
+use Rattle.chan_syntax.specs.Reading.{term_of, limit_of, ref_of, shape_of, res_in, res_of, equation_of, proto_of}
 use Rattle.form_faults.specs.declared.faults.IllKind.TheVariants as kind
-use Rattle.form_faults.specs.declared.faults.Ill.{Ill}
 use Rattle.form_faults.specs.declared.sorts.Sort.TheVariants as sort
 use Rattle.form_faults.specs.declared.sorts.Known.{Known}
 use Rattle.form_faults.specs.declared.signatures.Signature.{Signature}
 use Rattle.form_faults.specs.Faults.{of_name}
 use Rattle.form_faults.specs.Scopes.{bind_all, twice_all, names_past}
-use Rattle.form_faults.specs.Terms.{fixed_term_faults, fixed_terms_faults, bound_scope, bound_faults, limits_faults, count_of, counted, use_faults, fixed_ref_faults}
+use Rattle.form_faults.specs.Terms.{fixed_term_faults, fixed_terms_faults, bound_scope, bound_faults, count_of, counted, use_faults, fixed_ref_faults}
 use Rattle.form_faults.specs.Resources.{shape_faults, res_in_faults, res_faults, unless_shallow, are_shallow, next_faults, message_faults, branch_faults, equation_faults, proto_binders, proto_faults}
 use Rattle.core_programs.specs.declared.nodes.Parts.{Parts}
 use Rattle.core_programs.specs.Passes.{proto_signatures, protos_faults, funcs_faults, func_signatures}

@@ -1,8 +1,7 @@
 -- The references of what unfolding finds are known.
-use Rattle.std.proofs.Common.{◌≡◌, Bool, true, false, List, [], ◌∷◌, ◌++◌, All, length, Option, Some, None, Ok, refl, sym, ap, ◌∙◌, subst}
+use Rattle.std.proofs.Common.{◌≡◌, Bool, true, false, List, [], ◌∷◌, ◌++◌, All, length, Option, Some, None, Ok, refl, ◌∙◌, subst}
 use Rattle.std.proofs.lemmas.List.Elements.{All-nil, All-cons, All-append, All-head, All-tail}
 use Rattle.core_language.specs.Names.{Ident}
-use Rattle.core_language.specs.Terms.{Term}
 use Rattle.core_language.specs.Resources.{Ref, Shape, Res, Equation, Proto, Send, Recv, Close, Wait, Branch}
 use Rattle.core_language.specs.Resources as resource
 use Rattle.core_language.specs.Operands.{Letter}

@@ -1,9 +1,8 @@
 -- Each reference of a program of form is known.
-use Rattle.std.proofs.Common.{◌≡◌, ℕ, zero, suc, ◌<◌, ◌+◌, List, [], ◌∷◌, ◌++◌, All, map, flat_map, length, Option, Some, None, option_to_list, option_map, slice_get, ◌&&◌, refl, sym, ap, ◌∙◌, subst, arith}
+use Rattle.std.proofs.Common.{◌≡◌, ℕ, zero, suc, ◌+◌, List, [], ◌∷◌, ◌++◌, All, map, flat_map, length, Option, Some, None, option_to_list, option_map, slice_get, ◌&&◌, subst}
 use Rattle.std.proofs.lemmas.List.Elements.{All-nil, All-cons, All-append, All-head}
 use Rattle.core_language.specs.Resources as resource
 use Rattle.core_language.specs.Programs as core
-use Rattle.chan_syntax.specs.declared.linear.Bound.{Bound}
 use Rattle.chan_syntax.specs.declared.resources.Ref.{Ref}
 use Rattle.chan_syntax.specs.declared.resources.Shape.{Shape, Unit, Int, End, Pair', Sum', Row_of-Res, end_of-Res, more_of-Res}
 use Rattle.chan_syntax.specs.declared.resources.Res.{Res}
@@ -12,7 +11,6 @@ use Rattle.chan_syntax.specs.declared.resources.Equation.{Equation}
 use Rattle.chan_syntax.specs.declared.resources.Equation.TheVariants as equation
 use Rattle.chan_syntax.specs.declared.resources.Proto.{Proto}
 use Rattle.chan_syntax.specs.Reading.{ref_of, shape_of, res_in, res_of, equation_of, proto_of}
-use Rattle.form_faults.specs.declared.faults.Ill.{Ill}
 use Rattle.form_faults.specs.declared.sorts.Sort.TheVariants as sort
 use Rattle.form_faults.specs.declared.sorts.Known.{Known}
 use Rattle.form_faults.specs.declared.sorts.Naming.TheVariants as naming
@@ -25,7 +23,7 @@ use Rattle.core_programs.specs.declared.nodes.Node.TheVariants as node
 use Rattle.core_programs.specs.declared.nodes.Func.{Func}
 use Rattle.core_programs.specs.declared.nodes.Parts.{Parts}
 use Rattle.core_programs.specs.Formed.{nexts}
-use Rattle.core_programs.specs.Trees.{Tree, Nothing, Grown, at_number, grown, grown_at, tree_within, tree}
+use Rattle.core_programs.specs.Trees.{Tree, Grown, at_number, grown_at, tree_within, tree}
 use Rattle.core_programs.specs.Bodies.{opened, opened_at, rest_within, rest, param_of, function_of, program_of}
 use Rattle.core_programs.specs.Passes.{call_faults, operand_faults, first_binders, second_binders, body_faults, func_faults, funcs_faults, protos_faults, proto_signatures, func_signatures}
 use Rattle.core_programs.specs.Form.{HasForm}

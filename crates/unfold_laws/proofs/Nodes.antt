@@ -1,5 +1,5 @@
 -- The reference of each node of a program of form is known.
-use Rattle.std.proofs.Common.{◌≡◌, ℕ, zero, suc, ◌<◌, List, [], ◌∷◌, All, map, length, Option, Some, None, slice_get, refl, sym, ap, ◌∙◌, subst, arith}
+use Rattle.std.proofs.Common.{◌≡◌, ℕ, zero, suc, ◌<◌, List, [], ◌∷◌, map, length, Some, slice_get, sym, ap, ◌∙◌, subst, arith}
 use Rattle.chan_syntax.specs.declared.resources.Proto.{Proto}
 use Rattle.chan_syntax.specs.Reading.{proto_of}
 use Rattle.form_faults.specs.declared.sorts.Known.{Known}

@@ -1,16 +1,16 @@
 -- Unfolding has one answer.
-use Rattle.std.proofs.Common.{◌≡◌, ◌⊎◌, inl, inr, ⊎_elim, true≢false, ℕ, Bool, true, false, List, [], ◌∷◌, All, Option, Some, None, Result, Ok, Err, refl, sym, ap, ◌∙◌, subst}
+use Rattle.std.proofs.Common.{◌≡◌, ◌⊎◌, inl, inr, ⊎_elim, true≢false, ℕ, true, false, List, [], ◌∷◌, Option, Some, Result, Ok, Err, refl, sym, ap, ◌∙◌, subst}
 use Rattle.core_language.specs.Terms.{Term}
 use Rattle.core_language.specs.Resources.{Ref, Res, Equation, Proto, Send, Recv, Close, Wait, Branch}
 use Rattle.core_language.specs.Operands.{Letter}
 use Rattle.linear_forms.specs.Terms.{IntVar}
-use Rattle.linear_forms.specs.Substitution.{Each, Fits, IsNormalPut, IsRefLike, IsRenamed, IsSubst, AllFit, terms_of_res}
+use Rattle.linear_forms.specs.Substitution.{Each, Fits, IsNormalPut, IsRefLike, IsSubst, AllFit, terms_of_res}
 use Rattle.protocols.specs.Duals.{Message, Direction, message_of}
 use Rattle.protocols.specs.Heads.{proto_named, equation_of_end, on_way}
 use Rattle.protocols.specs.Unfolding.{Fault, WrongForm, CertCount, BranchNotProved, TooLarge, has_form, Setting, arguments, asked_row, obligation, IsFormed, Outcome, On, Stop, Takes, HasEquationAt, Steps, Follows, HasMessage, HasFormed, IsMessageTooLarge, Found, Unfolds}
 use Rattle.unfold_laws.specs.Answers.{AreAlike}
 use Rattle.unfold_laws.proofs.OneSpelling.{one_term_under}
-use Rattle.unfold_laws.proofs.OneResult.{each_same, each_all, made_ref, one_subst, res_fits}
+use Rattle.unfold_laws.proofs.OneResult.{each_all, made_ref, one_subst, res_fits}
 
 -- ---- one letter
 

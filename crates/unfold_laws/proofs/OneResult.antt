@@ -1,5 +1,5 @@
 -- Substitution has one result, up to the names of binders.
-use Rattle.std.proofs.Common.{◌≡◌, Bool, List, [], ◌∷◌, ◌++◌, All, map, flat_map, refl, sym, ap, ◌∙◌, subst}
+use Rattle.std.proofs.Common.{◌≡◌, Bool, List, [], ◌∷◌, ◌++◌, All, flat_map, refl, sym, ap, ◌∙◌, subst}
 use Rattle.std.proofs.lemmas.List.Elements.{All-nil, All-cons, All-append}
 use Rattle.core_language.specs.Names.{Ident}
 use Rattle.core_language.specs.Terms.{Term, Limit, Bound, Relation}
@@ -7,8 +7,8 @@ use Rattle.core_language.specs.Resources.{Ref, Shape, Res}
 use Rattle.core_language.specs.Resources as resource
 use Rattle.linear_forms.specs.Terms.{IntVar}
 use Rattle.linear_forms.specs.NormalTerms.{IsNormal}
-use Rattle.linear_forms.specs.Substitution.{Fits, Scoped, scoped, terms_of_limit, terms_of_shape, terms_of_res, Each, OnNames, OnTerms, AnyNames, IsPutTerm, IsLimitLike, IsRefLike, IsShapeLike, IsResLike, IsRenamed, IsNormalPut, IsSubst, AllFit}
-use Rattle.unfold_laws.specs.Answers.{SameNames, AnyTerms, HaveOneBinders, AreOneRes}
+use Rattle.linear_forms.specs.Substitution.{Fits, Scoped, scoped, terms_of_limit, terms_of_shape, terms_of_res, Each, OnNames, OnTerms, AnyNames, IsPutTerm, IsLimitLike, IsShapeLike, IsResLike, IsRenamed, IsNormalPut, IsSubst, AllFit}
+use Rattle.unfold_laws.specs.Answers.{SameNames, AnyTerms, AreOneRes}
 use Rattle.unfold_laws.proofs.OneSpelling.{one_term_under}
 
 -- ---- lists, item by item

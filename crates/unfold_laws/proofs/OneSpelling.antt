@@ -1,5 +1,5 @@
 -- A term in normal form is the only one of its value.
-use Rattle.std.proofs.Common.{◌≡◌, ◌≢◌, true≢false, ℕ, zero, suc, ℤ, pos, ◌+ℤ◌, ◌*ℤ◌, Bool, true, false, if◌then◌else◌, List, [], ◌∷◌, ◌++◌, All, map, Option, Some, None, refl, sym, ap, ◌∙◌, subst, arith}
+use Rattle.std.proofs.Common.{◌≡◌, ◌≢◌, true≢false, ℕ, ℤ, pos, ◌+ℤ◌, ◌*ℤ◌, Bool, true, false, List, [], ◌∷◌, All, map, Option, Some, None, refl, sym, ap, ◌∙◌, subst, arith}
 use Rattle.std.specs.Ordering.{nat_cmp, is_eq}
 use Rattle.std.specs.Cmp.{IsTotalOrder}
 use Rattle.std.specs.Cmp.Lexicographic.{slice_cmp, texts_ties, nat_list_cmp_total}
@@ -13,7 +13,7 @@ use Rattle.std.proofs.Math.IntN as Z
 use Rattle.core_language.specs.Names.{Ident, same}
 use Rattle.core_language.specs.Terms.{Term}
 use Rattle.linear_forms.specs.Terms.{times_of, counted, sum_of}
-use Rattle.linear_forms.specs.NormalTerms.{Counted, signed, named_parts, constant_parts, spelled, IsNormal, one_named, count_of, bare_of}
+use Rattle.linear_forms.specs.NormalTerms.{Counted, signed, named_parts, spelled, IsNormal, one_named, count_of, bare_of}
 use Rattle.linear_forms.specs.Substitution.{Var, Free, Inside, place_of, at_place, sum_under}
 use Rattle.linear_forms.proofs.Linear.{sum_of-cong}
 use Rattle.linear_forms.proofs.SameNames.{same_is, same-self, same-turned}

@@ -1,5 +1,5 @@
 -- Resources that come of one substitution, and answers of unfolding that are alike.
-use Rattle.std.specs.Prelude.{◌≡◌, List, [], Result, Ok, Err}
+use Rattle.std.specs.Prelude.{◌≡◌, [], Result, Ok, Err}
 use Rattle.core_language.specs.Resources.{Res}
 use Rattle.linear_forms.specs.Substitution.{OnNames, OnTerms, IsResLike, IsSameRes}
 use Rattle.protocols.specs.Unfolding.{Fault, Found}
