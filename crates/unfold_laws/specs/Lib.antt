@@ -1,0 +1,4 @@
+pub mod References
+pub mod Forks
+pub mod Answers
+pub mod Laws

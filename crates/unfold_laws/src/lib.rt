@@ -1,0 +1,16 @@
+//! Programs of form are as `unfold` asks, and unfolding has one answer.
+#![tactic(auto)]
+
+ghost use Rattle.unfold_laws.specs.Laws.{FormHasFormedProtocols, FormKnowsReferences, NodesKnowReferences, KnownHasArity, FormKnowsTheirs, FindsKnown, SubstHasOneResult, UnfoldingHasOneAnswer};
+
+/// What holds of programs of form, and of what unfolding answers. It does nothing.
+pub fn laws()
+    ensures protocols { FormHasFormedProtocols }
+    ensures references { FormKnowsReferences }
+    ensures forks { NodesKnowReferences }
+    ensures arity { KnownHasArity }
+    ensures theirs { FormKnowsTheirs }
+    ensures found { FindsKnown }
+    ensures result { SubstHasOneResult }
+    ensures answer { UnfoldingHasOneAnswer }
+{}
