@@ -1,0 +1,141 @@
+//! What computing the operands of a form comes to.
+ghost use Rattle.std.specs.Prelude.{◌≡◌, ◌<◌, ◌+ℤ◌, ◌-ℤ◌, ◌*ℤ◌};
+ghost use Rattle.std.specs.Option.{option_map};
+ghost use Rattle.core_language.specs.Computing.{machine, value_of, as_int, checked, joined, product as product_of, sum_of, multiplied, divided, left_over};
+ghost use Rattle.chan_syntax.specs.Reading.{term_of};
+ghost use Rattle.machine_values.specs.Reading.{env_of, value_as};
+ghost use Rattle.machine_values.specs.Troubles.{computed_of};
+
+use crate::binds::Bind;
+use crate::stops::{Halt, StuckWhy};
+use crate::values::Value;
+use chan_syntax::{Ident, Part, Term};
+
+/// Why operands come to no result.
+#[derive(Clone, Copy, Debug, PartialEq, Eq)]
+pub enum Trouble {
+    Stuck(StuckWhy),
+    Halts(Halt),
+}
+
+const OUT_OF_RANGE: Trouble = Trouble::Halts(Halt::Range);
+
+pub(crate) const NOT_INT: Trouble = Trouble::Stuck(StuckWhy::NotInt);
+
+fn add(total: i64, number: i64) -> Result<i64, Trouble>
+    ensures { computed_of result ≡ checked machine (total +ℤ number) }
+{
+    match total.checked_add(number) {
+        Some(sum) => Ok(sum),
+        None => Err(OUT_OF_RANGE),
+    }
+}
+
+fn subtract(total: i64, number: i64) -> Result<i64, Trouble>
+    ensures { computed_of result ≡ checked machine (total -ℤ number) }
+{
+    match total.checked_sub(number) {
+        Some(rest) => Ok(rest),
+        None => Err(OUT_OF_RANGE),
+    }
+}
+
+fn multiply(left: i64, right: i64) -> Result<i64, Trouble>
+    ensures { computed_of result ≡ checked machine (left *ℤ right) }
+{
+    match left.checked_mul(right) {
+        Some(product) => Ok(product),
+        None => Err(OUT_OF_RANGE),
+    }
+}
+
+fn narrow(wide: i128) -> Result<i64, Trouble>
+    ensures { computed_of result ≡ checked machine wide }
+{
+    match i64::try_from(wide) {
+        Ok(number) => Ok(number),
+        Err(_) => Err(OUT_OF_RANGE),
+    }
+}
+
+/// The value of the first variable with the name.
+pub fn lookup<'a>(binds: &'a [Bind], name: &Ident) -> Option<&'a Value>
+    ensures { option_map (λ value. value_as value.now) result ≡ value_of (env_of binds.now) name.now }
+{
+    'binds: for bind in binds {
+        if bind.name == *name {
+            return Some(&bind.value);
+        }
+    }
+    None
+}
+
+fn integer(binds: &[Bind], name: &Ident) -> Result<i64, Trouble>
+    ensures { computed_of result ≡ as_int (value_of (env_of binds.now) name.now) }
+{
+    match lookup(binds, name) {
+        Some(Value::Int(number)) => Ok(*number),
+        _ => Err(NOT_INT),
+    }
+}
+
+fn product(binds: &[Bind], part: &Part) -> Result<i64, Trouble>
+    ensures { computed_of result ≡ product_of machine (env_of binds.now) part.now.factor part.now.name }
+{
+    match &part.name {
+        None => Ok(part.factor),
+        Some(name) => {
+            let number = integer(binds, name)?;
+            multiply(part.factor, number)
+        }
+    }
+}
+
+fn join(negative: bool, total: i64, number: i64) -> Result<i64, Trouble>
+    ensures { computed_of result ≡ checked machine (joined negative total number) }
+{
+    if negative {
+        subtract(total, number)
+    } else {
+        add(total, number)
+    }
+}
+
+/// The sum that the term is, each product and each running sum within 64 bits.
+pub fn sum(binds: &[Bind], term: &Term) -> Result<i64, Trouble>
+    ensures { computed_of result ≡ sum_of machine (env_of binds.now) (term_of term.now) }
+{
+    let mut total = 0;
+    'parts: for part in term.parts.as_slice() {
+        let number = product(binds, part)?;
+        total = join(part.negative, total, number)?;
+    }
+    Ok(total)
+}
+
+/// The product of the two sums.
+pub fn product_of_sums(binds: &[Bind], left: &Term, right: &Term) -> Result<i64, Trouble>
+    ensures { computed_of result ≡ multiplied machine (env_of binds.now) (term_of left.now) (term_of right.now) }
+{
+    let left = sum(binds, left)?;
+    let right = sum(binds, right)?;
+    multiply(left, right)
+}
+
+/// The quotient, rounded down.
+pub fn quotient(binds: &[Bind], term: &Term, divisor: u64) -> Result<i64, Trouble>
+    requires { 0 < divisor }
+    ensures { computed_of result ≡ divided machine (env_of binds.now) (term_of term.now) divisor }
+{
+    let number = sum(binds, term)?;
+    narrow(i128::from(number).div_euclid(i128::from(divisor)))
+}
+
+/// What the division leaves over.
+pub fn remainder(binds: &[Bind], term: &Term, divisor: u64) -> Result<i64, Trouble>
+    requires { 0 < divisor }
+    ensures { computed_of result ≡ left_over machine (env_of binds.now) (term_of term.now) divisor }
+{
+    let number = sum(binds, term)?;
+    narrow(i128::from(number).rem_euclid(i128::from(divisor)))
+}
