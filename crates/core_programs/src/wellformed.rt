@@ -1,5 +1,5 @@
 //! Programs that are well formed.
-ghost use Rattle.std.specs.Prelude.{◌≡◌, ◌<◌, codes, length, IfSome, IfOk, IfErr};
+ghost use Rattle.std.specs.Prelude.{◌≡◌, ◌<◌, codes, length, slice_get, Some, IfSome, IfOk, IfErr};
 ghost use Rattle.std.specs.Option.{option_copied};
 ghost use Rattle.core_language.specs.Configurations.{names};
 ghost use Rattle.core_programs.specs.Bodies.{opened, rest, func_named};
@@ -77,6 +77,7 @@ impl Program {
     /// The node with this number. The body there is made of it and of the bodies that it names.
     pub fn node(&self, number: u32) -> &Node
         requires { number < length self.now.nodes }
+        ensures at { slice_get self.now.nodes number ≡ Some result.now }
         ensures opens { rest self.now.nodes number ≡ opened result.now (rest self.now.nodes) }
         ensures leads { LeadBelow result.now (length self.now.nodes) }
         ensures divisor { HasDivisor result.now }
