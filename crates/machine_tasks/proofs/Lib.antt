@@ -4,3 +4,4 @@ pub mod Places
 pub mod Below
 pub mod Params
 pub mod Channels
+pub mod ByKind

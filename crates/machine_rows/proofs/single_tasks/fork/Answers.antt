@@ -1,6 +1,6 @@
 use Rattle.std.proofs.Common.{sym}
 use Rattle.machine_tasks.specs.Reading.{act_in}
-use Rattle.machine_rows.proofs.ByKind.{forks}
+use Rattle.machine_tasks.proofs.ByKind.{forks}
 use Rattle.machine_rows.proofs.single_tasks.fork.Goals as goal
 
 pub fork-requires-clause-act : goal.fork-requires-clause-act

@@ -1,6 +1,6 @@
 use Rattle.std.proofs.Common.{sym}
 use Rattle.machine_tasks.specs.Reading.{act_in}
-use Rattle.machine_rows.proofs.ByKind.{prints}
+use Rattle.machine_tasks.proofs.ByKind.{prints}
 use Rattle.machine_rows.proofs.single_tasks.print.Goals as goal
 
 pub quiet-requires-clause-act : goal.quiet-requires-clause-act

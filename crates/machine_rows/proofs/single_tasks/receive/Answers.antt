@@ -1,6 +1,6 @@
 use Rattle.std.proofs.Common.{sym}
 use Rattle.machine_tasks.specs.Reading.{act_in}
-use Rattle.machine_rows.proofs.ByKind.{receives}
+use Rattle.machine_tasks.proofs.ByKind.{receives}
 use Rattle.machine_rows.proofs.single_tasks.receive.Goals as goal
 
 pub receive-requires-clause-act : goal.receive-requires-clause-act

@@ -1,6 +1,6 @@
 use Rattle.std.proofs.Common.{sym}
 use Rattle.machine_tasks.specs.Reading.{act_in}
-use Rattle.machine_rows.proofs.ByKind.{sends}
+use Rattle.machine_tasks.proofs.ByKind.{sends}
 use Rattle.machine_rows.proofs.single_tasks.send.Goals as goal
 
 pub send-requires-clause-act : goal.send-requires-clause-act

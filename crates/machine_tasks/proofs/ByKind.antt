@@ -1,7 +1,7 @@
--- Which act a task has, by the kind of it.
+-- Which act a task has, by the kind that `Task::act` tells: for who asks it and makes the step then.
 use Rattle.std.proofs.Common.{◌≡◌, ℤ}
 use Rattle.core_language.specs.Acts as act
-use Rattle.machine_tasks.specs.Kinds.{Fork, Send, Recv, Print, kind_of}
+use Rattle.machine_tasks.specs.Kinds.{Silent, Print, Fork, Send, Recv, End, kind_of}
 use Rattle.machine_tasks.specs.Moving.{IsQuiet}
 use Rattle.machine_tasks.specs.Sharing.{IsFork, IsSend, IsRecv}
 
@@ -48,3 +48,25 @@ receives act.End e = let bad : ⊥ = cc in absurd bad
 receives act.IsEnded e = let bad : ⊥ = cc in absurd bad
 receives (act.IsHalted why) e = let bad : ⊥ = cc in absurd bad
 receives (act.IsStuck why) e = let bad : ⊥ = cc in absurd bad
+
+pub is_silent : (a : act.Act) → kind_of a ≡ Silent → IsQuiet a
+is_silent (act.Silent place) e = tt
+is_silent (act.Print y place) e = tt
+is_silent (act.Fork child parent its) e = let bad : ⊥ = cc in absurd bad
+is_silent (act.Send channel v place) e = let bad : ⊥ = cc in absurd bad
+is_silent (act.Recv channel place) e = let bad : ⊥ = cc in absurd bad
+is_silent act.End e = tt
+is_silent act.IsEnded e = let bad : ⊥ = cc in absurd bad
+is_silent (act.IsHalted why) e = let bad : ⊥ = cc in absurd bad
+is_silent (act.IsStuck why) e = let bad : ⊥ = cc in absurd bad
+
+pub ends : (a : act.Act) → kind_of a ≡ End → IsQuiet a
+ends (act.Silent place) e = tt
+ends (act.Print y place) e = tt
+ends (act.Fork child parent its) e = let bad : ⊥ = cc in absurd bad
+ends (act.Send channel v place) e = let bad : ⊥ = cc in absurd bad
+ends (act.Recv channel place) e = let bad : ⊥ = cc in absurd bad
+ends act.End e = tt
+ends act.IsEnded e = let bad : ⊥ = cc in absurd bad
+ends (act.IsHalted why) e = let bad : ⊥ = cc in absurd bad
+ends (act.IsStuck why) e = let bad : ⊥ = cc in absurd bad
