@@ -96,7 +96,7 @@ impl Shared {
 }
 
 impl Value {
-    pub(crate) fn pair(alloc: Global, first: Value, second: Value) -> Result<Value, Memory>
+    pub fn pair(alloc: Global, first: Value, second: Value) -> Result<Value, Memory>
         ensures { IfOk result (λ value. value_as value ≡ Pair (value_as first) (value_as second)) }
     {
         let first = Shared::new(alloc, first)?;
@@ -104,14 +104,14 @@ impl Value {
         Ok(Value::Pair(first, second))
     }
 
-    pub(crate) fn left(alloc: Global, value: Value) -> Result<Value, Memory>
+    pub fn left(alloc: Global, value: Value) -> Result<Value, Memory>
         ensures { IfOk result (λ made. value_as made ≡ Left (value_as value)) }
     {
         let value = Shared::new(alloc, value)?;
         Ok(Value::Left(value))
     }
 
-    pub(crate) fn right(alloc: Global, value: Value) -> Result<Value, Memory>
+    pub fn right(alloc: Global, value: Value) -> Result<Value, Memory>
         ensures { IfOk result (λ made. value_as made ≡ Right (value_as value)) }
     {
         let value = Shared::new(alloc, value)?;
