@@ -1,5 +1,6 @@
 -- What the passes find in a program stands at one of its spans.
 use Rattle.std.proofs.Common.{ℕ, zero, suc, Bool, true, false, ◌&&◌, ◌||◌, not, nat_eq, nat_le, nat_lt, is_some, if◌then◌else◌, List, [], ◌∷◌, ◌++◌, length, map, Option, Some, None, unwrap_or, slice_get, ◌⊎◌, inl, inr, refl, sym, ap, subst}
+use Rattle.std.specs.List.{list_any}
 use Rattle.core_language.specs.Names.{Ident}
 use Rattle.chan_syntax.specs.declared.identifiers.Span.{Span}
 use Rattle.chan_syntax.specs.declared.linear.Part.{Part}
@@ -33,10 +34,6 @@ use Rattle.form_faults.specs.Numbers.{is_narrow, is_narrow_limit}
 use Rattle.form_faults.specs.Terms.{name_faults as names_in_parts, part_faults, parts_faults, term_faults, terms_faults, fixed_term_faults, fixed_terms_faults, limit_faults, limits_faults, limits_past, bound_binders, bound_scope, bound_faults, count_of, counted, use_faults, fixed_ref_faults, ref_faults}
 use Rattle.form_faults.specs.Resources.{shape_faults, res_in_faults, res_faults, unless_shallow, are_shallow, is_shallow, next_faults, message_faults, branch_faults, equation_faults, proto_binders, proto_faults, params_are_shallow, param_faults, params_faults, params_past, header_faults}
 use Rattle.form_faults.specs.Operands.{supply_faults, supply_in_faults, supplies_faults, greatest, divisor_faults, mention_faults, mentions_faults, mentions_past, cert_faults, certs_faults, proof_faults, path_faults, pat_binders}
-use Rattle.fault_places.specs.Spans.{Every, OfAny, OfNames, InPart, InTerm, InLimit, InBound, InRef, InShape, InBoxedRes, InRes, InParam, InNext, InEquation, InSupply, InBoxedSupply, InPat, InMention, InCert, InProof}
-use Rattle.fault_places.specs.Programs.{InProto, InNode, InTree, InFunc, InParts}
-use Rattle.fault_places.proofs.Lists.{every_append, every_map, every_to, every_middle, every_get}
-use Rattle.std.specs.List.{list_any}
 use Rattle.core_programs.specs.declared.nodes.Node.{Node}
 use Rattle.core_programs.specs.declared.nodes.Node.TheVariants as node
 use Rattle.core_programs.specs.declared.nodes.Func.{Func}
@@ -44,7 +41,10 @@ use Rattle.core_programs.specs.declared.nodes.Parts.{Parts}
 use Rattle.core_programs.specs.Trees.{Tree, Nothing, Grown, tree}
 use Rattle.core_programs.specs.Passes.{proto_names, func_names, twice_faults, call_faults, operand_faults, first_binders, second_binders, body_faults, func_faults, funcs_faults, protos_faults, name_faults, count_faults, is_main, no_main, main_faults}
 use Rattle.core_programs.specs.Form.{IsUnguarded, IsFault}
+use Rattle.fault_places.specs.Spans.{Every, OfAny, OfNames, InPart, InTerm, InLimit, InBound, InRef, InShape, InBoxedRes, InRes, InParam, InNext, InEquation, InSupply, InBoxedSupply, InPat, InMention, InCert, InProof}
+use Rattle.fault_places.specs.Programs.{InProto, InNode, InTree, InFunc, InParts}
 use Rattle.fault_places.specs.Laws.{TellsNoMain}
+use Rattle.fault_places.proofs.Lists.{every_append, every_map, every_to, every_middle, every_get}
 
 -- the property holds of where each of the faults stands
 record Stand (P : Span → Type 0) (faults : List Ill) : Type 0 where
