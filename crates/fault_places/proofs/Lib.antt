@@ -1,0 +1,9 @@
+pub mod Lists
+pub mod FaultSpans
+pub mod Placed
+pub mod PlacedTerms
+pub mod PlacedOperands
+pub mod PlacedLets
+pub mod PlacedBlocks
+pub mod ReadPlaces
+pub mod LoweredSpans

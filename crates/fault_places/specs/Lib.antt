@@ -1,0 +1,4 @@
+pub mod Spans
+pub mod Programs
+pub mod SurfaceTrees
+pub mod Laws
