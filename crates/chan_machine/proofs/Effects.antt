@@ -16,13 +16,14 @@ use Rattle.core_language.specs.Steps.{Step, Moves, Waits, IsEnded, IsAbsent, IsH
 use Rattle.core_language.specs.Steps as step
 use Rattle.core_programs.specs.declared.nodes.Parts.{Parts}
 use Rattle.core_programs.specs.Bodies.{program_of}
+use Rattle.machine_values.specs.declared.values.Value.{Value as Stored}
+use Rattle.machine_values.specs.Reading.{value_as}
 use Rattle.machine_tasks.specs.declared.tasks.Task.{Task}
 use Rattle.machine_tasks.specs.Kinds.{kind_of}
 use Rattle.machine_tasks.specs.Kinds as kind
 use Rattle.machine_tasks.specs.Channels.{channel_in}
 use Rattle.machine_tasks.specs.Moving.{place_after}
-use Rattle.machine_tasks.specs.declared.values.Value.{Value as Stored}
-use Rattle.machine_tasks.specs.Reading.{act_in, place_of, task_of, value_as}
+use Rattle.machine_tasks.specs.Reading.{act_in, place_of, task_of}
 use Rattle.chan_machine.specs.declared.events.Stepped.{Stepped}
 use Rattle.chan_machine.specs.Reading.{map_of, step_of}
 use Rattle.chan_machine.proofs.Maps.{get-map_of}

@@ -19,11 +19,12 @@ use Rattle.machine_rounds.specs.Local.{act_at, moves_in, looks_at}
 use Rattle.machine_rounds.specs.Local as local
 use Rattle.machine_rounds.specs.Sets.{has}
 use Rattle.machine_rounds.proofs.Ready.{parked_more}
+use Rattle.machine_values.specs.declared.values.Value.{Value}
+use Rattle.machine_values.specs.Reading.{value_as}
 use Rattle.machine_tasks.specs.declared.tasks.Task.{Task}
-use Rattle.machine_tasks.specs.declared.values.Value.{Value}
 use Rattle.machine_tasks.specs.Channels.{channel_in}
 use Rattle.machine_tasks.specs.Kinds.{kind_of}
-use Rattle.machine_tasks.specs.Reading.{act_in, place_of, task_of, value_as}
+use Rattle.machine_tasks.specs.Reading.{act_in, place_of, task_of}
 use Rattle.chan_machine.specs.declared.configurations.Config.{Config as Machine}
 use Rattle.chan_machine.specs.declared.runs.Run.{Run}
 use Rattle.chan_machine.specs.Reading.{config_of, map_of, prints_of}

@@ -12,9 +12,10 @@ use Rattle.core_language.specs.Steps as steps
 use Rattle.core_language.specs.Rounds as rounds
 use Rattle.core_language.specs.Endings as endings
 use Rattle.core_programs.specs.declared.nodes.Parts.{Parts}
+use Rattle.machine_values.specs.declared.values.Value.{Value}
+use Rattle.machine_values.specs.Reading.{value_as, why_of, halt_of}
 use Rattle.machine_tasks.specs.declared.tasks.Task.{Task}
-use Rattle.machine_tasks.specs.declared.values.Value.{Value}
-use Rattle.machine_tasks.specs.Reading.{value_as, why_of, halt_of, task_of}
+use Rattle.machine_tasks.specs.Reading.{task_of}
 use Rattle.chan_machine.specs.declared.events.Event.{Event}
 use Rattle.chan_machine.specs.declared.events.Event.TheVariants as event
 use Rattle.chan_machine.specs.declared.events.Stepped.{Stepped}

@@ -5,10 +5,11 @@ ghost use Rattle.std.specs.Ordering.{nat_cmp};
 ghost use Rattle.std.specs.Cmp.Lexicographic.{slice_cmp};
 ghost use Rattle.std.specs.BTreeMap.{Updates, get as looked_up};
 ghost use Rattle.core_language.specs.Steps.{effect};
+ghost use Rattle.machine_values.specs.Reading.{value_as};
 ghost use Rattle.machine_tasks.specs.declared.tasks.Task.{Task};
 ghost use Rattle.machine_tasks.specs.Channels.{channel_in};
 ghost use Rattle.machine_tasks.specs.Kinds.{kind_of, Fork, Send, Recv};
-ghost use Rattle.machine_tasks.specs.Reading.{act_in, value_as};
+ghost use Rattle.machine_tasks.specs.Reading.{act_in};
 ghost use Rattle.chan_machine.specs.Reading.{config_of, map_of, step_of};
 ghost use Rattle.chan_machine.specs.Fits.{Fits, ForksAt, RoomAt, is_moved};
 

@@ -5,8 +5,9 @@ ghost use Rattle.std.specs.List.{IsDistinct};
 ghost use Rattle.std.specs.Option.{option_map};
 ghost use Rattle.core_language.specs.Names.{same};
 ghost use Rattle.core_programs.specs.declared.nodes.Parts.{Parts};
+ghost use Rattle.machine_values.specs.Reading.{value_as};
 ghost use Rattle.machine_tasks.specs.Fits.{FramesFit};
-ghost use Rattle.machine_tasks.specs.Reading.{task_of, value_as};
+ghost use Rattle.machine_tasks.specs.Reading.{task_of};
 ghost use Rattle.chan_machine.specs.Fits.{AllFit, Fits, TasksFit};
 ghost use Rattle.chan_machine.specs.Reading.{channels_named, config_of, config_with, map_of, tasks_named};
 

@@ -4,7 +4,7 @@
 ghost use Rattle.std.specs.Prelude.{◌≡◌, ◌++◌, ◌∷◌, [], codes, map, IfOk, OnOk};
 ghost use Rattle.std.specs.List.{flat_map};
 ghost use Rattle.chan_base.specs.Names.{name_text};
-ghost use Rattle.machine_tasks.specs.Reading.{why_of};
+ghost use Rattle.machine_values.specs.Reading.{why_of};
 ghost use Rattle.chan_machine.specs.Reading.{entry_of, ending_as};
 ghost use Rattle.chanl_lines.specs.Lines as spec;
 

@@ -7,7 +7,7 @@ use Rattle.core_language.specs.Computing.{Computed, Done, Sticks, Halts}
 use Rattle.core_language.specs.Configurations.{Place}
 use Rattle.core_language.specs.Acts.{with_result, on_end}
 use Rattle.core_language.specs.Acts as act
-use Rattle.machine_tasks.specs.Troubles.{done_of}
+use Rattle.machine_values.specs.Troubles.{done_of}
 use Rattle.machine_tasks.specs.Kinds.{Silent, Send, kind_of, kind_after, kind_at_end}
 
 pub sends : (m : Computed Value) (o : Option Value) (go : Value → Name → Place)

@@ -8,10 +8,11 @@ use Rattle.core_language.specs.Configurations.{Place, Running, Caller, kept}
 use Rattle.core_language.specs.Acts.{at, returned}
 use Rattle.core_programs.specs.declared.nodes.Node.{Node}
 use Rattle.core_programs.specs.Bodies.{rest}
-use Rattle.machine_tasks.specs.declared.tasks.Bind.{Bind}
+use Rattle.machine_values.specs.declared.binds.Bind.{Bind}
+use Rattle.machine_values.specs.Reading.{env_of, value_as}
 use Rattle.machine_tasks.specs.declared.tasks.Frame.{Frame}
 use Rattle.machine_tasks.specs.Fits.{AtCall, FitFrom, FramesFit}
-use Rattle.machine_tasks.specs.Reading.{env_of, caller_at, caller_of, place_from, place_of, value_as}
+use Rattle.machine_tasks.specs.Reading.{caller_at, caller_of, place_from, place_of}
 use Rattle.machine_tasks.specs.Moving.{above, at_node, place_after}
 
 pub set_mid : {X : Type 0} (front : List X) (x y : X) (after : List X) (n : ℕ) → n ≡ length front → set (front ++ x ∷ after) n y ≡ front ++ y ∷ after

@@ -1,8 +1,8 @@
 -- A list that is gone through and loses what fails a test.
 use Rattle.std.proofs.Common.{◌≡◌, ℕ, zero, suc, ◌≤◌, List, [], ◌∷◌, ◌++◌, filter, take, drop, length, Bool, true, false, cond, refl, ap, arith}
 use Rattle.core_language.specs.Names.{Ident}
-use Rattle.machine_tasks.specs.declared.tasks.Bind.{Bind}
-use Rattle.machine_tasks.specs.Reading.{env_of, value_as}
+use Rattle.machine_values.specs.declared.binds.Bind.{Bind}
+use Rattle.machine_values.specs.Reading.{env_of, value_as}
 
 module _ {X : Type 0} (p : X → Bool) where
   -- what was kept so far, and what the test will keep

@@ -1,4 +1,3 @@
-pub mod Weighing
 pub mod ActKinds
 pub mod Keeping
 pub mod Places

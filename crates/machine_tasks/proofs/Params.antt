@@ -5,9 +5,9 @@ use Rattle.core_language.specs.Programs as core
 use Rattle.core_language.specs.Acts.{params_env}
 use Rattle.chan_syntax.specs.declared.resources.Param.{Param}
 use Rattle.core_programs.specs.Bodies.{param_of}
-use Rattle.machine_tasks.specs.declared.tasks.Bind.{Bind}
-use Rattle.machine_tasks.specs.declared.values.Value.{Value}
-use Rattle.machine_tasks.specs.Reading.{env_of, value_as}
+use Rattle.machine_values.specs.declared.binds.Bind.{Bind}
+use Rattle.machine_values.specs.declared.values.Value.{Value}
+use Rattle.machine_values.specs.Reading.{env_of, value_as}
 
 pub no_value : (ps : List core.Param) → params_env ps [] ≡ []
 no_value [] = refl

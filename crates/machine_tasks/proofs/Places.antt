@@ -11,11 +11,12 @@ use Rattle.core_language.specs.Acts.{Act, act_of, act_at}
 use Rattle.core_programs.specs.declared.nodes.Node.{Node}
 use Rattle.core_programs.specs.declared.nodes.Parts.{Parts}
 use Rattle.core_programs.specs.Bodies.{opened, program_of, rest}
-use Rattle.machine_tasks.specs.declared.tasks.Bind.{Bind}
+use Rattle.machine_values.specs.declared.binds.Bind.{Bind}
+use Rattle.machine_values.specs.Reading.{env_of, value_as}
 use Rattle.machine_tasks.specs.declared.tasks.Frame.{Frame}
 use Rattle.machine_tasks.specs.declared.tasks.Task.{Task}
 use Rattle.machine_tasks.specs.Fits.{AtCall, FitFrom, FramesFit, EndsIn}
-use Rattle.machine_tasks.specs.Reading.{act_in, env_of, caller_of, place_from, place_of, value_as}
+use Rattle.machine_tasks.specs.Reading.{act_in, caller_of, place_from, place_of}
 use Rattle.machine_tasks.specs.Moving.{at_node, bound_in, HasRoom, RoomFrom}
 
 -- a list before and after its last element is written

@@ -5,7 +5,7 @@ use Rattle.core_language.specs.Programs.{Body}
 use Rattle.core_language.specs.Programs as body
 use Rattle.core_programs.specs.declared.nodes.Node.{Node}
 use Rattle.core_programs.specs.Bodies.{rest}
-use Rattle.machine_tasks.specs.declared.tasks.Bind.{Bind}
+use Rattle.machine_values.specs.declared.binds.Bind.{Bind}
 use Rattle.machine_tasks.specs.declared.tasks.Frame.{Frame}
 
 abbrev pub IsCall : Body → Type 0

@@ -4,9 +4,9 @@ use Rattle.core_language.specs.Values.{Value}
 use Rattle.core_language.specs.Values as value
 use Rattle.core_language.specs.Computing as core
 use Rattle.core_language.specs.Acts as act
+use Rattle.machine_values.specs.Reading.{why_of, halt_of}
 use Rattle.machine_tasks.specs.declared.acts.Act.{Act}
 use Rattle.machine_tasks.specs.declared.acts.Act.TheVariants as variant
-use Rattle.machine_tasks.specs.Reading.{why_of, halt_of}
 
 pub data Kind : Type 0 where
   Silent : Kind

@@ -1,6 +1,4 @@
-pub mod ValueCode
 pub mod Reading
-pub mod Troubles
 pub mod Kinds
 pub mod Fits
 pub mod Moving

@@ -8,10 +8,10 @@ use Rattle.core_language.specs.Acts.{Act, at, bound, returned}
 use Rattle.core_language.specs.Acts as act
 use Rattle.core_programs.specs.declared.nodes.Node.{Node}
 use Rattle.core_programs.specs.Bodies.{rest}
+use Rattle.machine_values.specs.Reading.{env_of, value_as}
 use Rattle.machine_tasks.specs.declared.tasks.Frame.{Frame}
 use Rattle.machine_tasks.specs.declared.quiet.Side.{Side}
 use Rattle.machine_tasks.specs.declared.quiet.Side.TheVariants as side
-use Rattle.machine_tasks.specs.Reading.{env_of, value_as}
 
 -- the top frame at the node
 abbrev pub at_node : List Node → ℕ → Place → Place

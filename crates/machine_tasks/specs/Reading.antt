@@ -1,8 +1,6 @@
--- Values, reasons and tasks as the core language has them: cells, numbers of nodes and the order of
--- frames aside.
+-- Frames and tasks as the core language has them: numbers of nodes and the order of frames aside.
 use Rattle.std.specs.Prelude.{◌≡◌, ℕ, List, [], ◌∷◌, map, reverse}
 use Rattle.core_language.specs.Names.{Name}
-use Rattle.core_language.specs.Values as core
 use Rattle.core_language.specs.Computing as computing
 use Rattle.core_language.specs.Programs.{Body}
 use Rattle.core_language.specs.Programs as body
@@ -11,47 +9,10 @@ use Rattle.core_language.specs.Acts.{Act, act_of}
 use Rattle.core_programs.specs.declared.nodes.Node.{Node}
 use Rattle.core_programs.specs.declared.nodes.Parts.{Parts}
 use Rattle.core_programs.specs.Bodies.{rest, program_of}
-use Rattle.machine_tasks.specs.declared.values.Value.{Value}
-use Rattle.machine_tasks.specs.declared.values.Value.TheVariants as value
-use Rattle.machine_tasks.specs.declared.tasks.Bind.{Bind}
+use Rattle.machine_values.specs.Reading.{env_of}
 use Rattle.machine_tasks.specs.declared.tasks.Frame.{Frame}
 use Rattle.machine_tasks.specs.declared.tasks.Task.{Task}
-use Rattle.machine_tasks.specs.declared.stops.StuckWhy.{StuckWhy}
-use Rattle.machine_tasks.specs.declared.stops.StuckWhy.TheVariants as why
-use Rattle.machine_tasks.specs.declared.stops.Halt.{Halt}
-use Rattle.machine_tasks.specs.declared.stops.Halt.TheVariants as halt
 use Rattle.machine_tasks.specs.Fits.{FramesFit}
-
--- ---- values
-
-abbrev pub value_as : Value → core.Value
-value_as (value.Int number) = core.Int number
-value_as value.Unit = core.Unit
-value_as (value.Pair first second) = core.Pair first second
-value_as (value.Left part) = core.Left part
-value_as (value.Right part) = core.Right part
-value_as (value.End channel) = core.End channel.name
-
--- ---- reasons
-
-abbrev pub why_of : StuckWhy → computing.StuckWhy
-why_of why.NotInt = computing.NotInt
-why_of why.NotEnd = computing.NotEnd
-why_of why.NotPair = computing.NotPair
-why_of why.NotSum = computing.NotSum
-why_of why.FullChannel = computing.FullChannel
-why_of why.NoChannel = computing.NoChannel
-why_of why.Absurd = computing.Absurd
-why_of why.Deep = computing.Deep
-
-abbrev pub halt_of : Halt → computing.Halt
-halt_of halt.Range = computing.Range
-halt_of halt.Depth = computing.Depth
-
--- ---- tasks
-
-abbrev pub env_of : List Bind → computing.Env
-env_of binds = map (λ b. (b.name, value_as b.value)) binds
 
 -- a caller at a Call, which goes on after it with the result
 abbrev pub caller_at : Body → computing.Env → configuration.Caller

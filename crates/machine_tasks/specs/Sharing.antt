@@ -7,13 +7,14 @@ use Rattle.core_language.specs.Acts.{Act}
 use Rattle.core_language.specs.Acts as act
 use Rattle.core_programs.specs.declared.nodes.Node.{Node}
 use Rattle.core_programs.specs.declared.nodes.Parts.{Parts}
+use Rattle.machine_values.specs.Reading.{value_as}
 use Rattle.machine_tasks.specs.declared.tasks.Task.{Task}
 use Rattle.machine_tasks.specs.declared.sharing.Offspring.{Offspring}
 use Rattle.machine_tasks.specs.declared.sharing.Parcel.{Parcel}
 use Rattle.machine_tasks.specs.declared.sharing.Slot.{Slot}
 use Rattle.machine_tasks.specs.declared.sharing.Twins.{Twins}
 use Rattle.machine_tasks.specs.declared.sharing.Sending.{Sending}
-use Rattle.machine_tasks.specs.Reading.{act_in, place_of, value_as, IsTask}
+use Rattle.machine_tasks.specs.Reading.{act_in, place_of, IsTask}
 use Rattle.machine_tasks.specs.Moving.{at_node, bound_in}
 
 abbrev pub IsFork : Act → Type 0

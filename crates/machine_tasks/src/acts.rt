@@ -9,20 +9,21 @@ ghost use Rattle.core_language.specs.Acts.{act_at as act_at_body, on_pair, on_su
 ghost use Rattle.core_language.specs.Endings.{is_nil};
 ghost use Rattle.core_programs.specs.Bodies.{opened};
 ghost use Rattle.core_programs.specs.Formed.{HasDivisor};
-ghost use Rattle.machine_tasks.specs.Reading.{act_in, env_of, value_as};
+ghost use Rattle.machine_values.specs.Reading.{env_of, value_as};
+ghost use Rattle.machine_values.specs.Troubles.{computed_of};
+ghost use Rattle.machine_tasks.specs.Reading.{act_in};
 ghost use Rattle.machine_tasks.specs.Fits.{FramesFit};
-ghost use Rattle.machine_tasks.specs.Troubles.{computed_of};
 ghost use Rattle.machine_tasks.specs.Channels.{has_channel as has_channel_of, channel_in, channel_named, end_name};
 ghost use Rattle.machine_tasks.specs.Kinds.{Silent, End, Fork, IsHalted, kind_as, kind_of, kind_after, kind_at_end, print_after};
 
-use crate::computing::{Trouble, lookup, product_of_sums, quotient, remainder, sum};
-use crate::stops::{Halt, StuckWhy};
-use crate::supplying::{weigh_all, weighed};
-use crate::tasks::{Bind, Task};
-use crate::values::{Channel, Value};
+use crate::tasks::Task;
 use chan_base::Name;
 use chan_syntax::Ident;
 use core_programs::{Node, Program};
+use machine_values::{
+    Bind, Channel, Halt, StuckWhy, Trouble, Value, lookup, product_of_sums, quotient, remainder,
+    sum, weigh_all, weighed,
+};
 
 /// What a task does next, where the channel of a send is Empty and that of a receive is Full.
 #[derive(Debug, Drop)]

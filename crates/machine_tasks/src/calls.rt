@@ -4,18 +4,18 @@ ghost use Rattle.core_language.specs.Configurations.{kept};
 ghost use Rattle.core_language.specs.Acts.{returned};
 ghost use Rattle.core_programs.specs.declared.nodes.Node.{Node};
 ghost use Rattle.core_programs.specs.Bodies.{rest};
+ghost use Rattle.machine_values.specs.Reading.{env_of, value_as};
 ghost use Rattle.machine_tasks.specs.declared.tasks.Frame.{Frame};
 ghost use Rattle.machine_tasks.specs.Fits.{AtCall, FramesFit, BindsBelow};
-ghost use Rattle.machine_tasks.specs.Reading.{act_in, caller_at, caller_of, env_of, place_of, value_as};
+ghost use Rattle.machine_tasks.specs.Reading.{act_in, caller_at, caller_of, place_of};
 ghost use Rattle.machine_tasks.specs.Moving.{above, place_after};
 
 use crate::entering::enter;
 use crate::moving::keep;
-use crate::supplying::{make, make_all};
-use crate::tasks::{Bind, Frame, Task};
-use crate::values::Value;
+use crate::tasks::{Frame, Task};
 use chan_base::Memory;
 use core_programs::{Node, Program};
+use machine_values::{Bind, Value, make, make_all};
 use std::alloc::Global;
 
 /// The frame goes on top, and the caller below it keeps what the body at the node names.

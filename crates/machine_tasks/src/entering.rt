@@ -4,15 +4,15 @@ ghost use Rattle.core_language.specs.Programs.{function_named};
 ghost use Rattle.core_language.specs.Configurations.{Caller};
 ghost use Rattle.core_language.specs.Acts.{params_env, entered};
 ghost use Rattle.core_programs.specs.Bodies.{param_of, program_of};
-ghost use Rattle.machine_tasks.specs.Reading.{env_of, value_as};
+ghost use Rattle.machine_values.specs.Reading.{env_of, value_as};
 ghost use Rattle.machine_tasks.specs.Moving.{above};
 
 use crate::moving::keep;
-use crate::tasks::{Bind, Binds, Frame};
-use crate::values::Values;
+use crate::tasks::Frame;
 use chan_base::Memory;
 use chan_syntax::{Ident, Param};
 use core_programs::Program;
+use machine_values::{Bind, Binds, Values};
 use std::alloc::Global;
 
 /// The parameters with their values.

@@ -3,13 +3,15 @@ ghost use Rattle.std.specs.Prelude.{◌≡◌, ℕ, ◌<◌, ◌+◌, List, leng
 ghost use Rattle.core_language.specs.Configurations.{kept};
 ghost use Rattle.core_programs.specs.declared.nodes.Node.{Node};
 ghost use Rattle.core_programs.specs.Bodies.{rest};
+ghost use Rattle.machine_values.specs.Reading.{env_of, value_as};
 ghost use Rattle.machine_tasks.specs.Fits.{FramesFit};
-ghost use Rattle.machine_tasks.specs.Reading.{env_of, place_of, value_as};
+ghost use Rattle.machine_tasks.specs.Reading.{place_of};
 ghost use Rattle.machine_tasks.specs.Moving.{at_node, bound_in, HasRoom};
 
-use crate::tasks::{Bind, Binds, Frame, Task};
+use crate::tasks::{Frame, Task};
 use chan_base::Memory;
 use core_programs::Program;
+use machine_values::{Bind, Binds};
 
 /// Drops the variables that the body at the node doesn't name.
 pub(crate) fn keep(program: &Program, binds: &mut Binds, node: u32)

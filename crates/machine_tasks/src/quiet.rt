@@ -3,18 +3,18 @@ ghost use Rattle.std.specs.Prelude.{◌≡◌, ◌<◌, length, Some, IfOk, IfEr
 ghost use Rattle.std.specs.Option.{option_map};
 ghost use Rattle.core_language.specs.Acts.{Silent, with_result};
 ghost use Rattle.core_language.specs.Values as core;
+ghost use Rattle.machine_values.specs.Reading.{value_as};
+ghost use Rattle.machine_values.specs.Troubles.{computed_of};
 ghost use Rattle.machine_tasks.specs.Fits.{FramesFit};
-ghost use Rattle.machine_tasks.specs.Reading.{act_in, place_of, value_as, IsTask};
-ghost use Rattle.machine_tasks.specs.Troubles.{computed_of};
+ghost use Rattle.machine_tasks.specs.Reading.{act_in, place_of, IsTask};
 ghost use Rattle.machine_tasks.specs.Moving.{at_node, bound_in, place_after, side_value, IsQuiet};
 
 use crate::calls::{call, give_back, tail};
-use crate::computing::{Trouble, lookup, product_of_sums, quotient, remainder, sum};
-use crate::tasks::{Bind, Task};
-use crate::values::Value;
+use crate::tasks::Task;
 use chan_base::Memory;
 use chan_syntax::Ident;
 use core_programs::{Node, Program};
+use machine_values::{Bind, Trouble, Value, lookup, product_of_sums, quotient, remainder, sum};
 use std::alloc::Global;
 
 /// Binds the value and goes on at the node.

@@ -4,19 +4,18 @@ ghost use Rattle.core_language.specs.Programs.{function_named};
 ghost use Rattle.core_language.specs.Values as core;
 ghost use Rattle.core_language.specs.Acts.{entered};
 ghost use Rattle.core_programs.specs.Bodies.{program_of};
+ghost use Rattle.machine_values.specs.Reading.{value_as};
 ghost use Rattle.machine_tasks.specs.Fits.{FramesFit};
-ghost use Rattle.machine_tasks.specs.Reading.{act_in, place_of, value_as, IsTask};
+ghost use Rattle.machine_tasks.specs.Reading.{act_in, place_of, IsTask};
 ghost use Rattle.machine_tasks.specs.Moving.{HasRoom};
 ghost use Rattle.machine_tasks.specs.Sharing.{Branches, Forked, IsFork, IsRecv, IsSend, Received, Receives, Sends, Sent, place_with};
 
-use crate::computing::lookup;
 use crate::entering::enter;
-use crate::supplying::{make, make_all};
-use crate::tasks::{Bind, Frames, Task};
-use crate::values::{Channel, Value, Values};
+use crate::tasks::{Frames, Task};
 use chan_base::{Memory, Name, Number};
 use chan_syntax::Ident;
 use core_programs::{Node, Program};
+use machine_values::{Bind, Channel, Value, Values, lookup, make, make_all};
 use std::alloc::Global;
 
 /// What a fork makes: the new task, and its parent's end of the new channel with the node at which

@@ -2,22 +2,13 @@
 ghost use Rattle.std.specs.Prelude.{◌≡◌, [], IfSome, IfNone};
 ghost use Rattle.machine_tasks.specs.Fits.{EndsIn};
 
-use crate::values::Value;
 use chan_base::Name;
-use chan_syntax::Ident;
+use machine_values::Binds;
 use sqlite_items::Items;
-
-pub type Binds = Vec<Bind>;
 
 pub type Frames = Vec<Frame>;
 
 pub type Tasks = Items<Task>;
-
-#[derive(Drop)]
-pub struct Bind {
-    pub name: Ident,
-    pub value: Value,
-}
 
 /// A place in a body, and the values of its variables in the order in which they were bound. A
 /// caller stands at its Call node.

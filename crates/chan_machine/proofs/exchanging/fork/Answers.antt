@@ -8,8 +8,9 @@ use Rattle.core_language.specs.Names.{NameMap, child}
 use Rattle.core_language.specs.Configurations as core
 use Rattle.core_language.specs.Acts as act
 use Rattle.core_language.specs.Steps.{effect}
+use Rattle.machine_values.specs.Reading.{value_as}
 use Rattle.machine_tasks.specs.declared.tasks.Task.{Task}
-use Rattle.machine_tasks.specs.Reading.{act_in, place_of, task_of, value_as}
+use Rattle.machine_tasks.specs.Reading.{act_in, place_of, task_of}
 use Rattle.machine_tasks.specs.Sharing.{place_with}
 use Rattle.chan_machine.specs.Reading.{config_of, map_of}
 use Rattle.chan_machine.proofs.Maps.{put-map_of}

@@ -4,8 +4,8 @@ use Rattle.std.specs.Ordering.{nat_cmp}
 use Rattle.std.specs.Cmp.Lexicographic.{slice_cmp}
 use Rattle.std.specs.BTreeMap.{Updates, get as looked_up}
 use Rattle.core_language.specs.Names.{Name}
-use Rattle.machine_tasks.specs.declared.values.Value.{Value}
-use Rattle.machine_tasks.specs.Reading.{value_as}
+use Rattle.machine_values.specs.declared.values.Value.{Value}
+use Rattle.machine_values.specs.Reading.{value_as}
 use Rattle.chan_machine.proofs.Maps.{undone}
 use Rattle.chan_machine.proofs.exchanging.put_child.Goals as goal
 

@@ -1,6 +1,6 @@
 use Rattle.std.proofs.Common.{◌≡◌, ◌++◌, List, length}
 use Rattle.std.specs.Option.{option_map}
-use Rattle.machine_tasks.specs.Reading.{value_as}
+use Rattle.machine_values.specs.Reading.{value_as}
 use Rattle.chan_machine.specs.declared.configurations.Store.{Store}
 use Rattle.chan_machine.specs.Reading.{channels_named, map_of}
 use Rattle.chan_machine.proofs.gathering.gather_channels.Given as goal

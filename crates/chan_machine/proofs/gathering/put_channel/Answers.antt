@@ -1,5 +1,5 @@
 use Rattle.std.specs.Option.{option_map}
-use Rattle.machine_tasks.specs.Reading.{value_as}
+use Rattle.machine_values.specs.Reading.{value_as}
 use Rattle.chan_machine.proofs.Maps.{put-map_of}
 use Rattle.chan_machine.proofs.gathering.put_channel.Goals as goal
 

@@ -5,7 +5,8 @@ use Rattle.std.specs.Cmp.Lexicographic.{slice_cmp}
 use Rattle.std.specs.BTreeMap.{get as looked_up}
 use Rattle.std.proofs.lemmas.Result.{IfOk-weaker}
 use Rattle.std.proofs.lemmas.Int.{ints}
-use Rattle.machine_tasks.specs.Reading.{act_in, value_as, why_of, halt_of}
+use Rattle.machine_values.specs.Reading.{value_as, why_of, halt_of}
+use Rattle.machine_tasks.specs.Reading.{act_in}
 use Rattle.chan_machine.specs.Reading.{config_of, map_of, prints_of}
 use Rattle.chan_machine.proofs.Effects.{silent_effect, print_answer, end_effect, ended_effect, halted_effect, stuck_effect, forks_child, steps_here, steps_absent}
 use Rattle.chan_machine.proofs.looking.look.Goals as goal

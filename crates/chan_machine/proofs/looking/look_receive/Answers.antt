@@ -1,5 +1,5 @@
 use Rattle.std.proofs.Common.{Some, None, sym, ap, ◌∙◌}
-use Rattle.machine_tasks.specs.Reading.{value_as}
+use Rattle.machine_values.specs.Reading.{value_as}
 use Rattle.chan_machine.proofs.Effects.{receives_from, waits_at, no_receive, channel_has}
 use Rattle.chan_machine.proofs.looking.look_receive.Goals as goal
 

@@ -8,7 +8,8 @@ use Rattle.std.proofs.lemmas.Result.{IfOk-weaker}
 use Rattle.core_language.specs.Names.{NameMap}
 use Rattle.core_language.specs.Configurations as core
 use Rattle.core_language.specs.Steps.{Moves, Silent, End}
-use Rattle.machine_tasks.specs.Reading.{act_in, task_of, value_as, why_of, halt_of}
+use Rattle.machine_values.specs.Reading.{value_as, why_of, halt_of}
+use Rattle.machine_tasks.specs.Reading.{act_in, task_of}
 use Rattle.chan_machine.specs.Reading.{config_of, map_of, prints_of}
 use Rattle.chan_machine.proofs.Effects.{silent_effect, end_effect, ended_effect, halted_effect, stuck_effect, prints_now, steps_here, steps_absent}
 use Rattle.chan_machine.proofs.running.make_step.Goals as goal

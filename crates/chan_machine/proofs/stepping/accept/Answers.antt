@@ -2,8 +2,8 @@ use Rattle.std.proofs.Common.{rules, sym, ap, ◌∙◌}
 use Rattle.std.specs.Ordering.{nat_cmp}
 use Rattle.std.specs.Cmp.Lexicographic.{slice_cmp}
 use Rattle.std.specs.BTreeMap.{get as looked_up}
+use Rattle.machine_values.specs.Reading.{value_as}
 use Rattle.machine_tasks.specs.Sharing.{place_with}
-use Rattle.machine_tasks.specs.Reading.{value_as}
 use Rattle.chan_machine.proofs.Keeping.{moved, fits_put}
 use Rattle.chan_machine.proofs.stepping.accept.Goals as goal
 

@@ -4,8 +4,8 @@ use Rattle.core_language.specs.Acts.{act_at, at, bound, on_pair, on_sum}
 use Rattle.core_language.specs.Acts as act
 use Rattle.chan_syntax.specs.Reading.{term_of, supply_of}
 use Rattle.core_programs.specs.Bodies.{opened}
-use Rattle.machine_tasks.specs.Reading.{env_of}
-use Rattle.machine_tasks.specs.Troubles.{done_of}
+use Rattle.machine_values.specs.Reading.{env_of}
+use Rattle.machine_values.specs.Troubles.{done_of}
 use Rattle.machine_tasks.specs.Kinds.{Silent, Send, kind_as, kind_of, kind_after, kind_at_end}
 use Rattle.machine_tasks.proofs.ActKinds.{sends, chooses}
 use Rattle.machine_tasks.proofs.acts.act_at.Goals as goal

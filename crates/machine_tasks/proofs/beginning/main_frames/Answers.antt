@@ -4,9 +4,10 @@ use Rattle.std.specs.Option.{option_map}
 use Rattle.core_language.specs.Configurations.{Running, started}
 use Rattle.core_programs.specs.Bodies.{function_of, rest}
 use Rattle.core_programs.proofs.Functions.{function_found}
-use Rattle.machine_tasks.specs.declared.tasks.Bind.{Bind}
+use Rattle.machine_values.specs.declared.binds.Bind.{Bind}
+use Rattle.machine_values.specs.Reading.{env_of}
 use Rattle.machine_tasks.specs.declared.tasks.Frame.{Frame}
-use Rattle.machine_tasks.specs.Reading.{env_of, place_of}
+use Rattle.machine_tasks.specs.Reading.{place_of}
 use Rattle.machine_tasks.proofs.beginning.main_frames.Goals as goal
 
 pub returns-in_ok-push-in-Some-clause-place : goal.returns-in_ok-push-in-Some-clause-place

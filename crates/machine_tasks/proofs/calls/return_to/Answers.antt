@@ -4,9 +4,10 @@ use Rattle.core_programs.specs.Formed.{nexts}
 use Rattle.core_programs.specs.Bodies.{opened, rest}
 use Rattle.core_language.specs.Names.{Ident}
 use Rattle.core_language.specs.Configurations.{Caller}
-use Rattle.machine_tasks.specs.declared.tasks.Bind.{Bind}
+use Rattle.machine_values.specs.declared.binds.Bind.{Bind}
+use Rattle.machine_values.specs.Reading.{env_of}
 use Rattle.machine_tasks.specs.declared.tasks.Frame.{Frame}
-use Rattle.machine_tasks.specs.Reading.{env_of, caller_at, caller_of}
+use Rattle.machine_tasks.specs.Reading.{caller_at, caller_of}
 use Rattle.machine_tasks.proofs.Below.{last_two, two_long, found_below, caller_within, goes_back, back_fits, taken}
 use Rattle.machine_tasks.proofs.calls.return_to.Goals as goal
 

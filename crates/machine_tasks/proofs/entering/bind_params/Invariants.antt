@@ -1,7 +1,7 @@
 use Rattle.std.proofs.Common.{◌≡◌, map}
 use Rattle.core_language.specs.Acts.{params_env}
 use Rattle.core_programs.specs.Bodies.{param_of}
-use Rattle.machine_tasks.specs.Reading.{value_as}
+use Rattle.machine_values.specs.Reading.{value_as}
 use Rattle.machine_tasks.proofs.Params.{with_rest}
 use Rattle.machine_tasks.proofs.entering.bind_params.Given as goal
 

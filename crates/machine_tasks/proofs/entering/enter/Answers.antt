@@ -6,7 +6,7 @@ use Rattle.core_language.specs.Acts.{params_env, entered}
 use Rattle.chan_syntax.specs.declared.resources.Param.{Param}
 use Rattle.core_programs.specs.Bodies.{func_named, function_of, param_of, rest}
 use Rattle.core_programs.proofs.Functions.{function_found}
-use Rattle.machine_tasks.specs.Reading.{value_as}
+use Rattle.machine_values.specs.Reading.{value_as}
 use Rattle.machine_tasks.proofs.entering.enter.Goals as goal
 
 pub returns-in_ok-binds-in-Some-clause-entered : goal.returns-in_ok-binds-in-Some-clause-entered

@@ -1,7 +1,7 @@
 use Rattle.std.proofs.Common.{sym, ap, ◌∙◌, ◌≤◌, length, arith}
 use Rattle.core_language.specs.Configurations.{names}
 use Rattle.core_programs.specs.Bodies.{rest}
-use Rattle.machine_tasks.specs.Reading.{env_of}
+use Rattle.machine_values.specs.Reading.{env_of}
 use Rattle.machine_tasks.proofs.Keeping.{sift_over, kept_binds}
 use Rattle.machine_tasks.proofs.moving.keep.Goals as goal
 

@@ -1,6 +1,6 @@
 use Rattle.std.proofs.Common.{◌≡◌, ◌++◌, [], append-nil, rules, ap, sym, ◌∙◌}
 use Rattle.std.specs.Option.{option_map}
-use Rattle.machine_tasks.specs.Reading.{value_as}
+use Rattle.machine_values.specs.Reading.{value_as}
 use Rattle.chan_machine.proofs.Listed.{keys_read, names_in}
 use Rattle.chan_machine.proofs.configurations.Config.channels.Goals as goal
 

@@ -12,10 +12,11 @@ use Rattle.chan_syntax.specs.declared.operands.Supply.{Supply}
 use Rattle.chan_syntax.specs.Reading.{supply_of}
 use Rattle.core_programs.specs.Formed.{nexts}
 use Rattle.core_programs.specs.Bodies.{opened, program_of, rest}
-use Rattle.machine_tasks.specs.declared.tasks.Bind.{Bind}
-use Rattle.machine_tasks.specs.Reading.{env_of, caller_of, place_of, value_as}
+use Rattle.machine_values.specs.declared.binds.Bind.{Bind}
+use Rattle.machine_values.specs.Reading.{env_of, value_as}
+use Rattle.machine_values.specs.Troubles.{all_made_of}
+use Rattle.machine_tasks.specs.Reading.{caller_of, place_of}
 use Rattle.machine_tasks.specs.Sharing.{place_with}
-use Rattle.machine_tasks.specs.Troubles.{all_made_of}
 use Rattle.machine_tasks.proofs.Places.{act_here, place_last}
 use Rattle.machine_tasks.proofs.tasks.Task.offspring.Goals as goal
 

@@ -7,10 +7,11 @@ use Rattle.core_language.specs.Acts as act
 use Rattle.chan_syntax.specs.Reading.{supply_of}
 use Rattle.core_programs.specs.Formed.{nexts}
 use Rattle.core_programs.specs.Bodies.{opened, program_of, rest}
-use Rattle.machine_tasks.specs.declared.tasks.Bind.{Bind}
-use Rattle.machine_tasks.specs.Reading.{env_of, caller_of, value_as}
+use Rattle.machine_values.specs.declared.binds.Bind.{Bind}
+use Rattle.machine_values.specs.Reading.{env_of, value_as}
+use Rattle.machine_values.specs.Troubles.{made_of}
+use Rattle.machine_tasks.specs.Reading.{caller_of}
 use Rattle.machine_tasks.specs.Moving.{at_node}
-use Rattle.machine_tasks.specs.Troubles.{made_of}
 use Rattle.machine_tasks.proofs.Places.{act_here, place_last}
 use Rattle.machine_tasks.proofs.tasks.Task.parcel.Goals as goal
 

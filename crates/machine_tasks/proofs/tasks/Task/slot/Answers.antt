@@ -7,8 +7,9 @@ use Rattle.core_language.specs.Acts.{Act, act_at, at, bound, on_end}
 use Rattle.core_language.specs.Acts as act
 use Rattle.core_programs.specs.Formed.{nexts}
 use Rattle.core_programs.specs.Bodies.{opened, program_of, rest}
-use Rattle.machine_tasks.specs.declared.tasks.Bind.{Bind}
-use Rattle.machine_tasks.specs.Reading.{env_of, caller_of, value_as}
+use Rattle.machine_values.specs.declared.binds.Bind.{Bind}
+use Rattle.machine_values.specs.Reading.{env_of, value_as}
+use Rattle.machine_tasks.specs.Reading.{caller_of}
 use Rattle.machine_tasks.specs.Sharing.{place_with}
 use Rattle.machine_tasks.proofs.Places.{act_here, place_last}
 use Rattle.machine_tasks.proofs.tasks.Task.slot.Goals as goal

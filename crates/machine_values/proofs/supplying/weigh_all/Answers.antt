@@ -2,10 +2,10 @@ use Rattle.std.proofs.Common.{◌+◌, List, drop, map, sym, ap, ◌∙◌}
 use Rattle.core_language.specs.Computing.{machine, supplied, all_supplied}
 use Rattle.chan_syntax.specs.declared.operands.Supply.{Supply}
 use Rattle.chan_syntax.specs.Reading.{supply_of}
-use Rattle.machine_tasks.specs.Reading.{env_of}
-use Rattle.machine_tasks.specs.Troubles.{computed_of, done_of}
-use Rattle.machine_tasks.proofs.Weighing.{next_is, stops, passes}
-use Rattle.machine_tasks.proofs.supplying.weigh_all.Goals as goal
+use Rattle.machine_values.specs.Reading.{env_of}
+use Rattle.machine_values.specs.Troubles.{computed_of, done_of}
+use Rattle.machine_values.proofs.Weighing.{next_is, stops, passes}
+use Rattle.machine_values.proofs.supplying.weigh_all.Goals as goal
 
 pub returns-in-Err : goal.returns-in-Err
 returns-in-Err c =

@@ -4,12 +4,12 @@ ghost use Rattle.std.specs.Option.{option_copied, option_map};
 ghost use Rattle.core_language.specs.Computing.{machine, Done, and_then, shallow as shallow_of, known, sum_of, bare_part as bare_part_of, bare_name as bare_name_of, term_value, supplied, all_supplied};
 ghost use Rattle.core_language.specs.Values.{Int, Pair, Left, Right};
 ghost use Rattle.chan_syntax.specs.Reading.{term_of, supply_of};
-ghost use Rattle.machine_tasks.specs.Reading.{env_of, value_as};
-ghost use Rattle.machine_tasks.specs.Troubles.{computed_of, depth_of, nested_of, done_of, made_of, all_made_of};
+ghost use Rattle.machine_values.specs.Reading.{env_of, value_as};
+ghost use Rattle.machine_values.specs.Troubles.{computed_of, depth_of, nested_of, done_of, made_of, all_made_of};
 
+use crate::binds::Bind;
 use crate::computing::{NOT_INT, Trouble, lookup, sum};
 use crate::stops::StuckWhy;
-use crate::tasks::Bind;
 use crate::values::{TOO_DEEP, Value, Values};
 use chan_base::Memory;
 use chan_syntax::{Ident, Part, Supply, Term};
@@ -96,7 +96,7 @@ fn weigh_term(binds: &[Bind], term: &Term) -> Result<usize, Trouble>
 }
 
 /// The depth of the value that the supply would make.
-pub(crate) fn weigh(binds: &[Bind], supply: &Supply) -> Result<usize, Trouble>
+fn weigh(binds: &[Bind], supply: &Supply) -> Result<usize, Trouble>
     ensures { computed_of result ≡ depth_of (supplied machine (env_of binds.now) (supply_of supply.now)) }
 {
     match supply {
@@ -199,8 +199,8 @@ fn make_term(alloc: Global, binds: &[Bind], term: &Term) -> Result<Result<Value,
     }
 }
 
-/// The value that the supply makes.
-pub(crate) fn make(
+/// The value that the supply makes, or why it makes none; the outer error is want of memory.
+pub fn make(
     alloc: Global,
     binds: &[Bind],
     supply: &Supply,
@@ -235,15 +235,16 @@ fn forget(depth: Result<usize, Trouble>) -> Result<(), Trouble>
     }
 }
 
-/// Whether the supply makes a value.
-pub(crate) fn weighed(binds: &[Bind], supply: &Supply) -> Result<(), Trouble>
+/// Whether the supply makes a value, told without memory.
+pub fn weighed(binds: &[Bind], supply: &Supply) -> Result<(), Trouble>
     ensures { computed_of result ≡ done_of (supplied machine (env_of binds.now) (supply_of supply.now)) }
 {
     forget(weigh(binds, supply))
 }
 
-/// Whether the supplies make their values, in order.
-pub(crate) fn weigh_all(binds: &[Bind], supplies: &[Supply]) -> Result<(), Trouble>
+/// Whether the supplies make their values, told without memory; else why the first one that fails
+/// makes none.
+pub fn weigh_all(binds: &[Bind], supplies: &[Supply]) -> Result<(), Trouble>
     ensures { computed_of result ≡ done_of (all_supplied machine (env_of binds.now) (map supply_of supplies.now)) }
 {
     'supplies: for supply in supplies {
@@ -254,8 +255,9 @@ pub(crate) fn weigh_all(binds: &[Bind], supplies: &[Supply]) -> Result<(), Troub
     Ok(())
 }
 
-/// The values that the supplies make, in order.
-pub(crate) fn make_all(
+/// The values that the supplies make, or why the first one that fails makes none; the outer error is
+/// want of memory.
+pub fn make_all(
     alloc: Global,
     binds: &[Bind],
     supplies: &[Supply],

@@ -1,14 +1,14 @@
 //! The values of a run.
 ghost use Rattle.std.specs.Prelude.{◌≡◌, ◌+◌, min, IfOk};
 ghost use Rattle.core_language.specs.Values.{Pair, Left, Right, depth};
-ghost use Rattle.machine_tasks.specs.Reading.{value_as};
+ghost use Rattle.machine_values.specs.Reading.{value_as};
 
 use chan_base::{Memory, Name, Number};
 use std::alloc::Global;
 use std::marker::Model;
 use std::sync::Arc;
 
-pub(crate) type Values = Vec<Value>;
+pub type Values = Vec<Value>;
 
 /// No value of a run is nested this deep.
 pub(crate) const TOO_DEEP: usize = 257;
@@ -43,13 +43,13 @@ pub struct Shared {
 impl Model for Shared {
     ghost use Rattle.std.specs.Prelude.{◌≡◌, min};
     ghost use Rattle.core_language.specs.Values as core;
-    ghost use Rattle.machine_tasks.specs.ValueCode.{value_code};
+    ghost use Rattle.machine_values.specs.ValueCode.{value_code};
 
     ghost Value = { core.Value };
 
     ghost coded = { value_code };
 
-    ghost use Rattle.machine_tasks.specs.Reading.{value_as};
+    ghost use Rattle.machine_values.specs.Reading.{value_as};
 
     ghost view = { λ part. value_as part.value.value };
 
@@ -71,7 +71,8 @@ impl Shared {
         Ok(Shared { value, depth })
     }
 
-    pub(crate) fn get(&self) -> &Value
+    /// The value that its copies share.
+    pub fn get(&self) -> &Value
         ensures { value_as result.now ≡ self.now }
     {
         &self.value
@@ -117,7 +118,8 @@ impl Value {
         Ok(Value::Right(value))
     }
 
-    pub(crate) fn copy(&self, alloc: Global) -> Result<Value, Memory>
+    /// A copy, which shares the parts. The copy of an end costs the length of its channel's name.
+    pub fn copy(&self, alloc: Global) -> Result<Value, Memory>
         ensures { IfOk result (λ copy. copy ≡ self.now) }
     {
         match self {
@@ -160,7 +162,7 @@ impl Value {
 }
 
 /// The depth of a value whose deepest part has this depth.
-pub(crate) fn deeper(depth: usize) -> usize
+fn deeper(depth: usize) -> usize
     ensures { result ≡ min (depth + 1) 257 }
 {
     if depth < TOO_DEEP {

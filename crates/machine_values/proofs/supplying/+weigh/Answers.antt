@@ -2,11 +2,11 @@ use Rattle.std.proofs.Common.{ℕ, max, sym, ap, ◌∙◌}
 use Rattle.core_language.specs.Computing.{machine, Computed, Done, and_then, supplied}
 use Rattle.chan_syntax.specs.declared.operands.Supply.{Supply}
 use Rattle.chan_syntax.specs.Reading.{supply_of}
-use Rattle.core_programs.proofs.ReadSupplies.{supply_pair, supply_left, supply_right}
-use Rattle.machine_tasks.specs.Reading.{env_of}
-use Rattle.machine_tasks.specs.Troubles.{computed_of, depth_of, nested_of}
-use Rattle.machine_tasks.proofs.Weighing.{weighs_pair, weighs_left, weighs_right}
-use Rattle.machine_tasks.proofs.supplying.+weigh.Goals as goal
+use Rattle.machine_values.specs.Reading.{env_of}
+use Rattle.machine_values.specs.Troubles.{computed_of, depth_of, nested_of}
+use Rattle.machine_values.proofs.ReadSupplies.{supply_pair, supply_left, supply_right}
+use Rattle.machine_values.proofs.Weighing.{weighs_pair, weighs_left, weighs_right}
+use Rattle.machine_values.proofs.supplying.+weigh.Goals as goal
 
 pub returns-in-Pair : goal.returns-in-Pair
 returns-in-Pair t c =

@@ -4,9 +4,9 @@ use Rattle.std.proofs.lemmas.Bool.Decides.{nat_tests}
 use Rattle.std.proofs.lemmas.List.{drop_more}
 use Rattle.core_language.specs.Values.{Value, Pair, Left, Right, depth, is_shallow}
 use Rattle.core_language.specs.Computing.{Computed, Done, Sticks, Halts, Deep, and_then, shallow}
-use Rattle.machine_tasks.specs.Troubles.{computed_of, depth_of, nested_of, done_of}
-use Rattle.machine_tasks.specs.declared.computing.Trouble.{Trouble}
-use Rattle.machine_tasks.specs.declared.computing.Trouble.TheVariants as trouble
+use Rattle.machine_values.specs.Troubles.{computed_of, depth_of, nested_of, done_of}
+use Rattle.machine_values.specs.declared.computing.Trouble.{Trouble}
+use Rattle.machine_values.specs.declared.computing.Trouble.TheVariants as trouble
 
 same_test : (d x : ℕ) → x ≡ min d 257 → nat_le (suc d) 256 ≡ nat_lt x 256
 same_test d x is = grind (arith, nat_tests, is)

@@ -4,10 +4,10 @@ use Rattle.core_language.specs.Values.{Pair, Left, Right}
 use Rattle.core_language.specs.Computing.{machine, and_then, shallow, supplied}
 use Rattle.chan_syntax.specs.declared.operands.Supply.{Supply}
 use Rattle.chan_syntax.specs.Reading.{supply_of}
-use Rattle.core_programs.proofs.ReadSupplies.{supply_pair, supply_left, supply_right}
-use Rattle.machine_tasks.specs.Reading.{env_of}
-use Rattle.machine_tasks.specs.Troubles.{made_of}
-use Rattle.machine_tasks.proofs.supplying.+make.Goals as goal
+use Rattle.machine_values.specs.Reading.{env_of}
+use Rattle.machine_values.specs.Troubles.{made_of}
+use Rattle.machine_values.proofs.ReadSupplies.{supply_pair, supply_left, supply_right}
+use Rattle.machine_values.proofs.supplying.+make.Goals as goal
 
 pub returns-in_ok-second-in-Pair : goal.returns-in_ok-second-in-Pair
 returns-in_ok-second-in-Pair t c =

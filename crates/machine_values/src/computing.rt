@@ -3,17 +3,17 @@ ghost use Rattle.std.specs.Prelude.{◌≡◌, ◌<◌, ◌+ℤ◌, ◌-ℤ◌, 
 ghost use Rattle.std.specs.Option.{option_map};
 ghost use Rattle.core_language.specs.Computing.{machine, value_of, as_int, checked, joined, product as product_of, sum_of, multiplied, divided, left_over};
 ghost use Rattle.chan_syntax.specs.Reading.{term_of};
-ghost use Rattle.machine_tasks.specs.Reading.{env_of, value_as};
-ghost use Rattle.machine_tasks.specs.Troubles.{computed_of};
+ghost use Rattle.machine_values.specs.Reading.{env_of, value_as};
+ghost use Rattle.machine_values.specs.Troubles.{computed_of};
 
+use crate::binds::Bind;
 use crate::stops::{Halt, StuckWhy};
-use crate::tasks::Bind;
 use crate::values::Value;
 use chan_syntax::{Ident, Part, Term};
 
 /// Why operands come to no result.
 #[derive(Clone, Copy, Debug, PartialEq, Eq)]
-pub(crate) enum Trouble {
+pub enum Trouble {
     Stuck(StuckWhy),
     Halts(Halt),
 }
@@ -58,8 +58,8 @@ fn narrow(wide: i128) -> Result<i64, Trouble>
     }
 }
 
-/// The value that the variable has.
-pub(crate) fn lookup<'a>(binds: &'a [Bind], name: &Ident) -> Option<&'a Value>
+/// The value of the first variable with the name.
+pub fn lookup<'a>(binds: &'a [Bind], name: &Ident) -> Option<&'a Value>
     ensures { option_map (λ value. value_as value.now) result ≡ value_of (env_of binds.now) name.now }
 {
     'binds: for bind in binds {
@@ -102,7 +102,7 @@ fn join(negative: bool, total: i64, number: i64) -> Result<i64, Trouble>
 }
 
 /// The sum that the term is, each product and each running sum within 64 bits.
-pub(crate) fn sum(binds: &[Bind], term: &Term) -> Result<i64, Trouble>
+pub fn sum(binds: &[Bind], term: &Term) -> Result<i64, Trouble>
     ensures { computed_of result ≡ sum_of machine (env_of binds.now) (term_of term.now) }
 {
     let mut total = 0;
@@ -113,7 +113,8 @@ pub(crate) fn sum(binds: &[Bind], term: &Term) -> Result<i64, Trouble>
     Ok(total)
 }
 
-pub(crate) fn product_of_sums(binds: &[Bind], left: &Term, right: &Term) -> Result<i64, Trouble>
+/// The product of the two sums.
+pub fn product_of_sums(binds: &[Bind], left: &Term, right: &Term) -> Result<i64, Trouble>
     ensures { computed_of result ≡ multiplied machine (env_of binds.now) (term_of left.now) (term_of right.now) }
 {
     let left = sum(binds, left)?;
@@ -122,7 +123,7 @@ pub(crate) fn product_of_sums(binds: &[Bind], left: &Term, right: &Term) -> Resu
 }
 
 /// The quotient, rounded down.
-pub(crate) fn quotient(binds: &[Bind], term: &Term, divisor: u64) -> Result<i64, Trouble>
+pub fn quotient(binds: &[Bind], term: &Term, divisor: u64) -> Result<i64, Trouble>
     requires { 0 < divisor }
     ensures { computed_of result ≡ divided machine (env_of binds.now) (term_of term.now) divisor }
 {
@@ -131,7 +132,7 @@ pub(crate) fn quotient(binds: &[Bind], term: &Term, divisor: u64) -> Result<i64,
 }
 
 /// What the division leaves over.
-pub(crate) fn remainder(binds: &[Bind], term: &Term, divisor: u64) -> Result<i64, Trouble>
+pub fn remainder(binds: &[Bind], term: &Term, divisor: u64) -> Result<i64, Trouble>
     requires { 0 < divisor }
     ensures { computed_of result ≡ left_over machine (env_of binds.now) (term_of term.now) divisor }
 {

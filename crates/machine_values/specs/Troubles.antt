@@ -4,10 +4,10 @@ use Rattle.std.specs.Global.{Vec}
 use Rattle.core_language.specs.Values as value
 use Rattle.core_language.specs.Values.{depth}
 use Rattle.core_language.specs.Computing as core
-use Rattle.machine_tasks.specs.declared.computing.Trouble.{Trouble}
-use Rattle.machine_tasks.specs.declared.computing.Trouble.TheVariants as trouble
-use Rattle.machine_tasks.specs.declared.values.Value.{Value}
-use Rattle.machine_tasks.specs.Reading.{why_of, halt_of, value_as}
+use Rattle.machine_values.specs.declared.computing.Trouble.{Trouble}
+use Rattle.machine_values.specs.declared.computing.Trouble.TheVariants as trouble
+use Rattle.machine_values.specs.declared.values.Value.{Value}
+use Rattle.machine_values.specs.Reading.{why_of, halt_of, value_as}
 
 abbrev pub computed_of : {A : Type 0} → Result A Trouble → core.Computed A
 computed_of (Ok value) = core.Done value

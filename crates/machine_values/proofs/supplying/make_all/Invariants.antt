@@ -1,8 +1,8 @@
 use Rattle.std.proofs.Common.{◌≡◌, ◌++◌, drop, map}
 use Rattle.core_language.specs.Computing.{machine, Done, and_then, all_supplied}
 use Rattle.chan_syntax.specs.Reading.{supply_of}
-use Rattle.machine_tasks.specs.Reading.{env_of, value_as}
-use Rattle.machine_tasks.proofs.supplying.make_all.Given as goal
+use Rattle.machine_values.specs.Reading.{env_of, value_as}
+use Rattle.machine_values.proofs.supplying.make_all.Given as goal
 
 abbrev pub invariant-supplies : goal.invariant-supplies
 invariant-supplies l =

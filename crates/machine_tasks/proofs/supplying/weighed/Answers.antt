@@ -1,7 +1,0 @@
-use Rattle.std.proofs.Common.{ap, ◌∙◌}
-use Rattle.machine_tasks.specs.Troubles.{done_of}
-use Rattle.machine_tasks.proofs.Weighing.{weighs_done}
-use Rattle.machine_tasks.proofs.supplying.weighed.Goals as goal
-
-pub returns : goal.returns
-returns c = c.forget.ensures ∙ ap done_of c.weigh.ensures ∙ weighs_done _

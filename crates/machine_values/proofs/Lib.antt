@@ -1,0 +1,2 @@
+pub mod ReadSupplies
+pub mod Weighing
