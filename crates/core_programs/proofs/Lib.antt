@@ -1,5 +1,4 @@
 pub mod Forests
-pub mod Chains
 pub mod Functions
 pub mod ReadSupplies
 pub mod Growing
