@@ -2,6 +2,7 @@
 use Rattle.std.specs.Prelude.{ℕ, ◌+◌, not, ◌&&◌, nat_eq, if◌then◌else◌, codes, length, map, Bool, true, false, List, [], ◌∷◌, ◌++◌}
 use Rattle.std.specs.List.{list_any}
 use Rattle.core_language.specs.Names.{Ident, same}
+use Rattle.core_language.specs.Endings.{is_nil}
 use Rattle.chan_syntax.specs.declared.identifiers.Span.{Span}
 use Rattle.chan_syntax.specs.declared.linear.Bound.{Bound}
 use Rattle.chan_syntax.specs.declared.resources.Shape.{Shape, Unit, Int, End, Pair', Sum'}
@@ -129,10 +130,6 @@ abbrev pub count_faults : Parts → List Ill
 count_faults parts = past 4096 (map (λ p. p.span) parts.protos) ++ past 4096 (map (λ f. f.span) parts.funcs)
 
 -- ---- pass 5: NoMain at 1:1, unless a function `main` has no binders and no parameters, and gives the unit
-
-abbrev pub is_nil : {A : Type 0} → List A → Bool
-is_nil [] = true
-is_nil (x ∷ xs) = false
 
 abbrev pub is_unbound : Bound → Bool
 is_unbound bound = is_nil bound.names && is_nil bound.limits
