@@ -1,9 +1,7 @@
 //! Configurations made of their parts.
-ghost use Rattle.std.specs.Prelude.{◌≡◌, map, IfOk, OnOk};
+ghost use Rattle.std.specs.Prelude.{◌≡◌, IfOk, OnOk};
 ghost use Rattle.std.specs.FinMap.{insert};
-ghost use Rattle.std.specs.List.{IsDistinct};
 ghost use Rattle.std.specs.Option.{option_map};
-ghost use Rattle.core_language.specs.Names.{same};
 ghost use Rattle.core_programs.specs.declared.nodes.Parts.{Parts};
 ghost use Rattle.machine_values.specs.Reading.{value_as};
 ghost use Rattle.machine_tasks.specs.Fits.{FramesFit};
@@ -62,10 +60,8 @@ fn gather_channels(alloc: Global, stores: Stores) -> Result<BTreeMap<Name, Optio
 }
 
 impl Config {
-    /// The configuration of these tasks, channels and prints.
+    /// The configuration of these tasks, channels and prints: of two with one name the first.
     pub fn of(alloc: Global, tasks: Tasks, channels: Stores, prints: Puts) -> Result<Config, Memory>
-        requires tasks { IsDistinct same (map (λ t. t.name) tasks) }
-        requires channels { IsDistinct same (map (λ s. s.name) channels) }
         ensures value { IfOk result (λ config. (program : Parts) → config_of program config ≡ config_with program tasks channels prints) }
         ensures fits { IfOk result (λ config. (program : Parts) → AllFit program tasks → Fits program config) }
     {

@@ -1,3 +1,2 @@
 pub mod ByKind
-pub mod Alone
 pub mod Started

@@ -1,7 +1,4 @@
 //! Configurations of their parts.
-ghost use Rattle.std.specs.Prelude.{map, IfOk};
-ghost use Rattle.std.specs.List.{IsDistinct};
-ghost use Rattle.core_language.specs.Names.{same};
 
 use crate::programs::{SENDS_FIVE, program};
 use chan_base::{Memory, Name, Names};
@@ -12,18 +9,14 @@ use std::alloc::Global;
 use std::test::Fail;
 
 /// `main` before its first step, alone.
-fn one_task(alloc: Global, program: &Program) -> Result<Tasks, Memory>
-    ensures { IfOk result (λ tasks. IsDistinct same (map (λ t. t.name) tasks)) }
-{
+fn one_task(alloc: Global, program: &Program) -> Result<Tasks, Memory> {
     let mut tasks = Items::new(alloc);
     tasks.push(Task::main(alloc, program)?)?;
     Ok(tasks)
 }
 
 /// The channel of the second fork of `main`, alone, with a 5 on it.
-fn one_channel(alloc: Global) -> Result<Stores, Memory>
-    ensures { IfOk result (λ channels. IsDistinct same (map (λ s. s.name) channels)) }
-{
+fn one_channel(alloc: Global) -> Result<Stores, Memory> {
     let name = Name::root(alloc).child(alloc, 1)?;
     let value = Some(Value::Int(5));
     let mut channels = Items::new(alloc);
