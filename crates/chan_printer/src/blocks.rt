@@ -6,12 +6,12 @@ ghost use Rattle.surface_spelling.specs.Layout.{bytes, closing, step};
 ghost use Rattle.surface_spelling.specs.Blocks as spec;
 
 use crate::heads::{
-    put_access, put_arm_head, put_branch_head, put_call, put_condition, put_let_fork, put_let_name,
-    put_let_pair, put_let_pat, put_let_two_pats, put_loop_head, put_match_head, put_sent,
-    put_target, put_task_head, put_term_and_number, put_two_terms,
+    put_arm_head, put_branch_head, put_condition, put_let_fork, put_loop_head, put_match_head,
+    put_task_head,
 };
-use crate::operands::{put_path, put_proof, put_values};
-use crate::words::{Spell, put, put_line};
+use crate::operands::{put_proof, put_values};
+use crate::plain::{put_computation, put_end};
+use crate::words::{put, put_line};
 use chan_base::Memory;
 use chan_syntax::{Block, Last, Pat, Stmt};
 use std::alloc::Global;
@@ -67,66 +67,12 @@ fn put_stmts(alloc: Global, text: &mut Vec<u8>, stmts: &[Stmt], depth: usize) ->
     Ok(())
 }
 
+/// A statement with a block; the others are handed on.
 #[cycle(blocks)]
 fn put_stmt(alloc: Global, text: &mut Vec<u8>, stmt: &Stmt, depth: usize) -> Result<(), Memory>
     ensures { OnOk result (text.new.items ≡ text.old.items ++ bytes (spec.stmt depth stmt.now)) }
 {
     match stmt {
-        Stmt::Let { name, term, .. } => {
-            put_let_name(text, name)?;
-            term.spell(alloc, text)
-        }
-        Stmt::Mul {
-            name,
-            left,
-            right,
-            ..
-        } => {
-            put_let_name(text, name)?;
-            put(text, b"mul")?;
-            put_two_terms(alloc, text, left, right)
-        }
-        Stmt::Div {
-            name,
-            term,
-            divisor,
-            ..
-        } => {
-            put_let_name(text, name)?;
-            put(text, b"div")?;
-            put_term_and_number(alloc, text, term, *divisor)
-        }
-        Stmt::Rem {
-            name,
-            term,
-            divisor,
-            ..
-        } => {
-            put_let_name(text, name)?;
-            put(text, b"rem")?;
-            put_term_and_number(alloc, text, term, *divisor)
-        }
-        Stmt::Call {
-            pat,
-            func,
-            values,
-            proof,
-            ..
-        } => {
-            put_let_pat(alloc, text, pat)?;
-            put_call(alloc, text, func, values.as_slice(), proof)
-        }
-        Stmt::Fork {
-            name,
-            proto,
-            func,
-            values,
-            proof,
-            ..
-        } => {
-            put_let_fork(alloc, text, name, proto)?;
-            put_call(alloc, text, func, values.as_slice(), proof)
-        }
         Stmt::ForkDo {
             name,
             proto,
@@ -143,101 +89,7 @@ fn put_stmt(alloc: Global, text: &mut Vec<u8>, stmt: &Stmt, depth: usize) -> Res
             put_task_head(alloc, text, func, bound, param, starts.as_slice(), proof)?;
             put_block(alloc, text, block, depth)
         }
-        Stmt::Send1 {
-            channel,
-            path,
-            value,
-            proof,
-            ..
-        } => {
-            put(text, b"send1 ")?;
-            put(text, channel.as_slice())?;
-            put_path(text, path.as_slice())?;
-            put_sent(alloc, text, value, proof)
-        }
-        Stmt::Recv1 {
-            pat,
-            channel,
-            path,
-            proof,
-            ..
-        } => {
-            put_let_pat(alloc, text, pat)?;
-            put(text, b"recv1 ")?;
-            put_access(alloc, text, channel, path.as_slice(), proof)
-        }
-        Stmt::Send {
-            name,
-            channel,
-            proto,
-            path,
-            value,
-            proof,
-            ..
-        } => {
-            put_let_name(text, name)?;
-            put(text, b"send ")?;
-            put_target(alloc, text, channel, proto, path.as_slice())?;
-            put_sent(alloc, text, value, proof)
-        }
-        Stmt::Recv {
-            first,
-            second,
-            names,
-            channel,
-            path,
-            proof,
-            ..
-        } => {
-            put_let_pair(alloc, text, first, second, names.as_slice())?;
-            put(text, b"recv ")?;
-            put_access(alloc, text, channel, path.as_slice(), proof)
-        }
-        Stmt::Close {
-            channel,
-            path,
-            proof,
-            ..
-        } => {
-            put(text, b"close ")?;
-            put_access(alloc, text, channel, path.as_slice(), proof)
-        }
-        Stmt::Wait {
-            channel,
-            path,
-            proof,
-            ..
-        } => {
-            put(text, b"wait ")?;
-            put_access(alloc, text, channel, path.as_slice(), proof)
-        }
-        Stmt::Choose {
-            right,
-            name,
-            channel,
-            proto,
-            path,
-            proof,
-            ..
-        } => {
-            put_let_name(text, name)?;
-            put(text, if *right { b"right " } else { b"left " })?;
-            put_target(alloc, text, channel, proto, path.as_slice())?;
-            put_proof(alloc, text, proof)
-        }
-        Stmt::Split {
-            first,
-            second,
-            name,
-            ..
-        } => {
-            put_let_two_pats(alloc, text, first, second)?;
-            put(text, name.as_slice())
-        }
-        Stmt::Print { term, .. } => {
-            put(text, b"print ")?;
-            term.spell(alloc, text)
-        }
+        _ => put_computation(alloc, text, stmt),
     }
 }
 
@@ -257,21 +109,12 @@ fn put_arm(
     put_block(alloc, text, block, depth)
 }
 
+/// An If or a Match; the others are handed on.
 #[cycle(blocks)]
 fn put_last(alloc: Global, text: &mut Vec<u8>, last: &Last, depth: usize) -> Result<(), Memory>
     ensures { OnOk result (text.new.items ≡ text.old.items ++ bytes (spec.last depth last.now)) }
 {
     match last {
-        Last::Ret { value, proof, .. } => {
-            put(text, b"ret")?;
-            put_sent(alloc, text, value, proof)
-        }
-        Last::Tail {
-            func,
-            values,
-            proof,
-            ..
-        } => put_call(alloc, text, func, values.as_slice(), proof),
         Last::If {
             left,
             right,
@@ -298,6 +141,21 @@ fn put_last(alloc: Global, text: &mut Vec<u8>, last: &Last, depth: usize) -> Res
             put_arm(alloc, text, b"inr", right, no, inner)?;
             put_closing(text, depth)
         }
+        _ => put_session_last(alloc, text, last, depth),
+    }
+}
+
+/// A Branch, Loop or Again; the others are handed on.
+#[cycle(blocks)]
+fn put_session_last(
+    alloc: Global,
+    text: &mut Vec<u8>,
+    last: &Last,
+    depth: usize,
+) -> Result<(), Memory>
+    ensures { OnOk result (text.new.items ≡ text.old.items ++ bytes (spec.last depth last.now)) }
+{
+    match last {
         Last::Branch {
             channel,
             path,
@@ -312,10 +170,6 @@ fn put_last(alloc: Global, text: &mut Vec<u8>, last: &Last, depth: usize) -> Res
             put_block(alloc, text, yes, depth)?;
             put(text, ELSE)?;
             put_block(alloc, text, no, depth)
-        }
-        Last::Absurd { proof, .. } => {
-            put(text, b"absurd")?;
-            put_proof(alloc, text, proof)
         }
         Last::Loop {
             name,
@@ -335,5 +189,6 @@ fn put_last(alloc: Global, text: &mut Vec<u8>, last: &Last, depth: usize) -> Res
             put_values(alloc, text, values.as_slice())?;
             put_proof(alloc, text, proof)
         }
+        _ => put_end(alloc, text, last),
     }
 }

@@ -5,6 +5,7 @@ mod blocks;
 mod declarations;
 mod heads;
 mod operands;
+mod plain;
 mod printing;
 mod resources;
 mod terms;

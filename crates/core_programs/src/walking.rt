@@ -1,12 +1,13 @@
 //! The faults of bodies, in one walk over their nodes.
 #![tactic(auto, using(form_faults::proofs::Firsts::first_rules, form_faults::proofs::Binders::binder_rules, crate::proofs::Patterns::pattern_rules), unfolding(crate::specs::Passes::call_faults, crate::specs::Passes::operand_faults, crate::specs::Passes::first_binders, crate::specs::Passes::second_binders))]
 
-ghost use Rattle.std.specs.Prelude.{◌≡◌, ◌<◌, ◌+◌, ◌++◌, not, nat_eq, length, slice_get, IfOk, OnOk};
+ghost use Rattle.std.specs.Prelude.{◌≡◌, ◌<◌, ◌+◌, ◌++◌, List, not, nat_eq, length, slice_get, IfOk, OnOk};
 ghost use Rattle.form_faults.specs.declared.sorts.Naming.TheVariants as naming;
+ghost use Rattle.form_faults.specs.declared.signatures.Signature.{Signature};
 ghost use Rattle.form_faults.specs.Terms.{term_faults};
 ghost use Rattle.form_faults.specs.Operands.{pat_binders};
 ghost use Rattle.form_faults.specs.Faults.{least, unless};
-ghost use Rattle.form_faults.specs.Scopes.{bind_all, twice_all};
+ghost use Rattle.form_faults.specs.Scopes.{unscoped, bind_all, twice_all};
 ghost use Rattle.core_programs.specs.Formed.{nexts, IsNumbered};
 ghost use Rattle.core_programs.specs.Trees.{tree};
 ghost use Rattle.core_programs.specs.Passes as spec;
@@ -80,6 +81,124 @@ fn check_division(
     Ok(())
 }
 
+/// The faults of a call with the values that it is written with.
+fn check_plain_call(
+    alloc: Global,
+    first: &mut Option<Ill>,
+    funcs: &Table,
+    scope: &Scope,
+    func: &Ident,
+    span: Span,
+    values: &Supplies,
+    proof: &Proof,
+) -> Result<(), Memory>
+    ensures { OnOk result (first.new ≡ least first.old (spec.call_faults funcs.now scope.now func.now span (length values.now) values.now proof.now)) }
+{
+    let count = values.len();
+    check_call(alloc, first, funcs, scope, func, span, count, values, proof)
+}
+
+fn check_variable(
+    alloc: Global,
+    first: &mut Option<Ill>,
+    scope: &Scope,
+    name: &Ident,
+    span: Span,
+) -> Result<(), Memory>
+    ensures { OnOk result (first.new ≡ least first.old (unscoped naming.Variables scope.now name.now span)) }
+{
+    check_name(alloc, first, scope, Naming::Variables, name, span)
+}
+
+/// The faults of what a node names, at a Send1, Recv1, Absurd or Ret.
+fn check_exchange(
+    alloc: Global,
+    first: &mut Option<Ill>,
+    scope: &Scope,
+    node: &Node,
+) -> Result<(), Memory>
+    ensures { (protos funcs : List Signature) → OnOk result (first.new ≡ least first.old (spec.operand_faults protos funcs scope.now node.now)) }
+{
+    match node {
+        Node::Send1 {
+            channel,
+            channel_span,
+            path,
+            path_span,
+            value,
+            proof,
+            span,
+            ..
+        } => {
+            check_variable(alloc, first, scope, channel, *channel_span)?;
+            check_path(alloc, first, path, *path_span, *span);
+            check_supply(alloc, first, scope, value)?;
+            check_proof(alloc, first, scope, proof)
+        }
+        Node::Recv1 {
+            channel,
+            channel_span,
+            path,
+            path_span,
+            proof,
+            span,
+            ..
+        } => {
+            check_variable(alloc, first, scope, channel, *channel_span)?;
+            check_path(alloc, first, path, *path_span, *span);
+            check_proof(alloc, first, scope, proof)
+        }
+        Node::Absurd { proof, .. } => check_proof(alloc, first, scope, proof),
+        Node::Ret { value, proof, .. } => {
+            check_supply(alloc, first, scope, value)?;
+            check_proof(alloc, first, scope, proof)
+        }
+        _ => Err(Memory),
+    }
+}
+
+/// The faults of what a node names, at a Call, Tail or Fork; the others are handed on.
+fn check_called(
+    alloc: Global,
+    first: &mut Option<Ill>,
+    protos: &Table,
+    funcs: &Table,
+    scope: &Scope,
+    node: &Node,
+) -> Result<(), Memory>
+    ensures { OnOk result (first.new ≡ least first.old (spec.operand_faults protos.now funcs.now scope.now node.now)) }
+{
+    match node {
+        Node::Call {
+            func,
+            func_span,
+            values,
+            proof,
+            ..
+        } => check_plain_call(alloc, first, funcs, scope, func, *func_span, values, proof),
+        Node::Tail {
+            func,
+            func_span,
+            values,
+            proof,
+            ..
+        } => check_plain_call(alloc, first, funcs, scope, func, *func_span, values, proof),
+        Node::Fork {
+            proto,
+            func,
+            func_span: at,
+            values,
+            proof,
+            ..
+        } => {
+            let count = one_more(values.len())?;
+            check_ref(alloc, first, protos, scope, proto)?;
+            check_call(alloc, first, funcs, scope, func, *at, count, values, proof)
+        }
+        _ => check_exchange(alloc, first, scope, node),
+    }
+}
+
 /// The faults of what a node names.
 fn check_operands(
     alloc: Global,
@@ -106,124 +225,19 @@ fn check_operands(
             divisor_span,
             ..
         } => { check_division(alloc, first, scope, term, *divisor, *divisor_span) }
-        Node::Call {
-            func,
-            func_span,
-            values,
-            proof,
-            ..
-        } => {
-            check_call(
-                alloc,
-                first,
-                funcs,
-                scope,
-                func,
-                *func_span,
-                values.len(),
-                values,
-                proof,
-            )
-        }
-        Node::Tail {
-            func,
-            func_span,
-            values,
-            proof,
-            ..
-        } => {
-            check_call(
-                alloc,
-                first,
-                funcs,
-                scope,
-                func,
-                *func_span,
-                values.len(),
-                values,
-                proof,
-            )
-        }
-        Node::Fork {
-            proto,
-            func,
-            func_span,
-            values,
-            proof,
-            ..
-        } => {
-            check_ref(alloc, first, protos, scope, proto)?;
-            check_call(
-                alloc,
-                first,
-                funcs,
-                scope,
-                func,
-                *func_span,
-                one_more(values.len())?,
-                values,
-                proof,
-            )
-        }
-        Node::Send1 {
-            channel,
-            channel_span,
-            path,
-            path_span,
-            value,
-            proof,
-            span,
-            ..
-        } => {
-            check_name(
-                alloc,
-                first,
-                scope,
-                Naming::Variables,
-                channel,
-                *channel_span,
-            )?;
-            check_path(alloc, first, path, *path_span, *span);
-            check_supply(alloc, first, scope, value)?;
-            check_proof(alloc, first, scope, proof)
-        }
-        Node::Recv1 {
-            channel,
-            channel_span,
-            path,
-            path_span,
-            proof,
-            span,
-            ..
-        } => {
-            check_name(
-                alloc,
-                first,
-                scope,
-                Naming::Variables,
-                channel,
-                *channel_span,
-            )?;
-            check_path(alloc, first, path, *path_span, *span);
-            check_proof(alloc, first, scope, proof)
-        }
         Node::Print { term, .. } => check_term(alloc, first, scope, Naming::Variables, term),
         Node::If { left, right, .. } => check_terms_of(alloc, first, scope, left, right),
         Node::Split {
             name,
             name_span,
             ..
-        } => { check_name(alloc, first, scope, Naming::Variables, name, *name_span) }
+        } => check_variable(alloc, first, scope, name, *name_span),
         Node::Match {
             name,
             name_span,
             ..
-        } => { check_name(alloc, first, scope, Naming::Variables, name, *name_span) }
-        Node::Absurd { proof, .. } => check_proof(alloc, first, scope, proof),
-        Node::Ret { value, proof, .. } => {
-            check_supply(alloc, first, scope, value)?;
-            check_proof(alloc, first, scope, proof)
-        }
+        } => check_variable(alloc, first, scope, name, *name_span),
+        _ => check_called(alloc, first, protos, funcs, scope, node),
     }
 }
 
@@ -273,24 +287,19 @@ fn bind_first(
             ..
         } => { bind_name(alloc, first, scope, name, Sort::Both, *name_span) }
         Node::Call { pat, .. } => bind_pat(alloc, first, scope, pat),
-        Node::Tail { .. } => Ok(()),
         Node::Fork {
             name,
             name_span,
             ..
         } => { bind_name(alloc, first, scope, name, Sort::Variable, *name_span) }
-        Node::Send1 { .. } => Ok(()),
         Node::Recv1 { pat, .. } => bind_pat(alloc, first, scope, pat),
-        Node::Print { .. } => Ok(()),
-        Node::If { .. } => Ok(()),
         Node::Split {
             first: left,
             second,
             ..
         } => bind_two(alloc, first, scope, left, second),
         Node::Match { left, .. } => bind_pat(alloc, first, scope, left),
-        Node::Absurd { .. } => Ok(()),
-        Node::Ret { .. } => Ok(()),
+        _ => Ok(()),
     }
 }
 

@@ -28,11 +28,8 @@ fn number_stmts(alloc: Global, nodes: &mut Nodes, stmts: &[Stmt], last: u32) -> 
     Ok(next)
 }
 
-/// Adds the nodes of what ends a block.
-#[cycle(numbering)]
-#[tactic(auto, using(crate::proofs::CoreBlocks::core_rules, std::proofs::lemmas::Grind::common_steps))]
-fn number_last(alloc: Global, nodes: &mut Nodes, last: &Last) -> Result<u32, Memory>
-    requires core { is_core_last last.now ≡ true }
+/// Adds the node of a Ret, Tail or Absurd.
+fn number_end(alloc: Global, nodes: &mut Nodes, last: &Last) -> Result<u32, Memory>
     ensures adds { IfOk result (Adds nodes.old nodes.new []) }
     ensures body { IfOk result (EndsAt nodes.new last.now) }
 {
@@ -51,6 +48,23 @@ fn number_last(alloc: Global, nodes: &mut Nodes, last: &Last) -> Result<u32, Mem
             let number = add_tail(alloc, nodes, func, *func_span, values, proof, *span)?;
             Ok(number)
         }
+        Last::Absurd { proof, span } => {
+            let number = add_absurd(alloc, nodes, proof, *span)?;
+            Ok(number)
+        }
+        _ => Err(Memory),
+    }
+}
+
+/// Adds the nodes of what ends a block.
+#[cycle(numbering)]
+#[tactic(auto, using(crate::proofs::CoreBlocks::core_rules, std::proofs::lemmas::Grind::common_steps))]
+fn number_last(alloc: Global, nodes: &mut Nodes, last: &Last) -> Result<u32, Memory>
+    requires core { is_core_last last.now ≡ true }
+    ensures adds { IfOk result (Adds nodes.old nodes.new []) }
+    ensures body { IfOk result (EndsAt nodes.new last.now) }
+{
+    match last {
         Last::If {
             left,
             right,
@@ -78,13 +92,10 @@ fn number_last(alloc: Global, nodes: &mut Nodes, last: &Last) -> Result<u32, Mem
             let number = add_match(alloc, nodes, name, *name_span, left, right, bodies, *span)?;
             Ok(number)
         }
-        Last::Absurd { proof, span } => {
-            let number = add_absurd(alloc, nodes, proof, *span)?;
-            Ok(number)
-        }
         Last::Branch { .. } => unreachable!(),
         Last::Loop { .. } => unreachable!(),
         Last::Again { .. } => unreachable!(),
+        _ => number_end(alloc, nodes, last),
     }
 }
 

@@ -1,61 +1,109 @@
-//! The nodes of statements.
+//! The nodes of statements. A function for one form would answer Memory for another, and is not called with it.
 ghost use Rattle.std.specs.Prelude.{◌≡◌, true, IfOk};
-ghost use Rattle.core_programs.specs.declared.nodes.Node.TheVariants as node;
 ghost use Rattle.session_layer.specs.Core.{is_core_stmt};
 ghost use Rattle.session_layer.specs.Lowering.{IsNodeOf};
 
 use chan_base::Memory;
-use chan_syntax::{Ident, Pat, Path, Proof, Span, Stmt, Supplies, Term, copy_path, copy_supplies};
+use chan_syntax::{Ident, Path, Proof, Stmt, Supplies, copy_path, copy_supplies};
 use core_programs::Node;
 use std::alloc::Global;
 
-fn let_node(
-    alloc: Global,
-    name: &Ident,
-    name_span: Span,
-    term: &Term,
-    next: u32,
-    span: Span,
-) -> Result<Node, Memory>
-    ensures { IfOk result (λ x. x ≡ node.Let name.now name_span term.now next span) }
+/// The node of a Let.
+fn let_node(alloc: Global, stmt: &Stmt, next: u32) -> Result<Node, Memory>
+    ensures { IfOk result (IsNodeOf stmt.now next) }
 {
+    let Stmt::Let {
+        name,
+        name_span,
+        term,
+        span,
+    } = stmt
+    else {
+        return Err(Memory);
+    };
     Ok(Node::Let {
         name: name.copy(alloc)?,
-        name_span,
+        name_span: *name_span,
         term: term.copy(alloc)?,
         next,
-        span,
+        span: *span,
     })
 }
 
-fn mul_node(
-    alloc: Global,
-    name: &Ident,
-    name_span: Span,
-    left: &Term,
-    right: &Term,
-    next: u32,
-    span: Span,
-) -> Result<Node, Memory>
-    ensures { IfOk result (λ x. x ≡ node.Mul name.now name_span left.now right.now next span) }
+/// The node of a Mul.
+fn mul_node(alloc: Global, stmt: &Stmt, next: u32) -> Result<Node, Memory>
+    ensures { IfOk result (IsNodeOf stmt.now next) }
 {
+    let Stmt::Mul {
+        name,
+        name_span,
+        left,
+        right,
+        span,
+    } = stmt
+    else {
+        return Err(Memory);
+    };
     Ok(Node::Mul {
         name: name.copy(alloc)?,
-        name_span,
+        name_span: *name_span,
         left: left.copy(alloc)?,
         right: right.copy(alloc)?,
         next,
-        span,
+        span: *span,
     })
 }
 
-/// The name and the term of a division.
-fn dividend(alloc: Global, name: &Ident, term: &Term) -> Result<(Ident, Term), Memory>
-    ensures { IfOk result (λ p. (p.0 ≡ name.now) × (p.1 ≡ term.now)) }
+/// The node of a Div.
+fn div_node(alloc: Global, stmt: &Stmt, next: u32) -> Result<Node, Memory>
+    ensures { IfOk result (IsNodeOf stmt.now next) }
 {
-    let name = name.copy(alloc)?;
-    let term = term.copy(alloc)?;
-    Ok((name, term))
+    let Stmt::Div {
+        name,
+        name_span,
+        term,
+        divisor,
+        divisor_span,
+        span,
+    } = stmt
+    else {
+        return Err(Memory);
+    };
+    Ok(Node::Div {
+        name: name.copy(alloc)?,
+        name_span: *name_span,
+        term: term.copy(alloc)?,
+        divisor: *divisor,
+        divisor_span: *divisor_span,
+        next,
+        span: *span,
+    })
+}
+
+/// The node of a Rem.
+fn rem_node(alloc: Global, stmt: &Stmt, next: u32) -> Result<Node, Memory>
+    ensures { IfOk result (IsNodeOf stmt.now next) }
+{
+    let Stmt::Rem {
+        name,
+        name_span,
+        term,
+        divisor,
+        divisor_span,
+        span,
+    } = stmt
+    else {
+        return Err(Memory);
+    };
+    Ok(Node::Rem {
+        name: name.copy(alloc)?,
+        name_span: *name_span,
+        term: term.copy(alloc)?,
+        divisor: *divisor,
+        divisor_span: *divisor_span,
+        next,
+        span: *span,
+    })
 }
 
 /// The name of a function, the values for it, and the proof.
@@ -73,6 +121,67 @@ pub(crate) fn called(
     Ok((func, values, proof))
 }
 
+/// The node of a Call.
+fn call_node(alloc: Global, stmt: &Stmt, next: u32) -> Result<Node, Memory>
+    ensures { IfOk result (IsNodeOf stmt.now next) }
+{
+    let Stmt::Call {
+        pat,
+        func,
+        func_span,
+        values,
+        proof,
+        span,
+    } = stmt
+    else {
+        return Err(Memory);
+    };
+    let pat = pat.copy(alloc)?;
+    let (func, values, proof) = called(alloc, func, values, proof)?;
+    Ok(Node::Call {
+        pat,
+        func,
+        func_span: *func_span,
+        values,
+        proof,
+        next,
+        span: *span,
+    })
+}
+
+/// The node of a Fork.
+fn fork_node(alloc: Global, stmt: &Stmt, next: u32) -> Result<Node, Memory>
+    ensures { IfOk result (IsNodeOf stmt.now next) }
+{
+    let Stmt::Fork {
+        name,
+        name_span,
+        proto,
+        func,
+        func_span,
+        values,
+        proof,
+        span,
+    } = stmt
+    else {
+        return Err(Memory);
+    };
+    let name = name.copy(alloc)?;
+    let proto = proto.copy(alloc)?;
+    let (func, values, proof) = called(alloc, func, values, proof)?;
+    Ok(Node::Fork {
+        name,
+        name_span: *name_span,
+        proto,
+        func,
+        func_span: *func_span,
+        values,
+        proof,
+        next,
+        span: *span,
+    })
+}
+
 /// A channel, the way through its protocol, and the proof.
 fn access(
     alloc: Global,
@@ -88,24 +197,102 @@ fn access(
     Ok((channel, path, proof))
 }
 
-fn split_node(
-    alloc: Global,
-    first: &Pat,
-    second: &Pat,
-    name: &Ident,
-    name_span: Span,
-    next: u32,
-    span: Span,
-) -> Result<Node, Memory>
-    ensures { IfOk result (λ x. x ≡ node.Split first.now second.now name.now name_span next span) }
+/// The node of a Send1.
+fn send1_node(alloc: Global, stmt: &Stmt, next: u32) -> Result<Node, Memory>
+    ensures { IfOk result (IsNodeOf stmt.now next) }
 {
+    let Stmt::Send1 {
+        channel,
+        channel_span,
+        path,
+        path_span,
+        value,
+        proof,
+        span,
+    } = stmt
+    else {
+        return Err(Memory);
+    };
+    let (channel, path, proof) = access(alloc, channel, path, proof)?;
+    let value = value.copy(alloc)?;
+    Ok(Node::Send1 {
+        channel,
+        channel_span: *channel_span,
+        path,
+        path_span: *path_span,
+        value,
+        proof,
+        next,
+        span: *span,
+    })
+}
+
+/// The node of a Recv1.
+fn recv1_node(alloc: Global, stmt: &Stmt, next: u32) -> Result<Node, Memory>
+    ensures { IfOk result (IsNodeOf stmt.now next) }
+{
+    let Stmt::Recv1 {
+        pat,
+        channel,
+        channel_span,
+        path,
+        path_span,
+        proof,
+        span,
+    } = stmt
+    else {
+        return Err(Memory);
+    };
+    let pat = pat.copy(alloc)?;
+    let (channel, path, proof) = access(alloc, channel, path, proof)?;
+    Ok(Node::Recv1 {
+        pat,
+        channel,
+        channel_span: *channel_span,
+        path,
+        path_span: *path_span,
+        proof,
+        next,
+        span: *span,
+    })
+}
+
+/// The node of a Split.
+fn split_node(alloc: Global, stmt: &Stmt, next: u32) -> Result<Node, Memory>
+    ensures { IfOk result (IsNodeOf stmt.now next) }
+{
+    let Stmt::Split {
+        first,
+        second,
+        name,
+        name_span,
+        span,
+    } = stmt
+    else {
+        return Err(Memory);
+    };
     Ok(Node::Split {
         first: first.copy(alloc)?,
         second: second.copy(alloc)?,
         name: name.copy(alloc)?,
-        name_span,
+        name_span: *name_span,
         next,
-        span,
+        span: *span,
+    })
+}
+
+/// The node of a Print.
+fn print_node(alloc: Global, stmt: &Stmt, next: u32) -> Result<Node, Memory>
+    ensures { IfOk result (IsNodeOf stmt.now next) }
+{
+    let Stmt::Print { term, span } = stmt else {
+        return Err(Memory);
+    };
+    let term = term.copy(alloc)?;
+    Ok(Node::Print {
+        term,
+        next,
+        span: *span,
     })
 }
 
@@ -115,170 +302,16 @@ pub(crate) fn stmt_node(alloc: Global, stmt: &Stmt, next: u32) -> Result<Node, M
     ensures { IfOk result (IsNodeOf stmt.now next) }
 {
     match stmt {
-        Stmt::Let {
-            name,
-            name_span,
-            term,
-            span,
-        } => {
-            let node = let_node(alloc, name, *name_span, term, next, *span)?;
-            Ok(node)
-        }
-        Stmt::Mul {
-            name,
-            name_span,
-            left,
-            right,
-            span,
-        } => {
-            let node = mul_node(alloc, name, *name_span, left, right, next, *span)?;
-            Ok(node)
-        }
-        Stmt::Div {
-            name,
-            name_span,
-            term,
-            divisor,
-            divisor_span,
-            span,
-        } => {
-            let (name, term) = dividend(alloc, name, term)?;
-            Ok(Node::Div {
-                name,
-                name_span: *name_span,
-                term,
-                divisor: *divisor,
-                divisor_span: *divisor_span,
-                next,
-                span: *span,
-            })
-        }
-        Stmt::Rem {
-            name,
-            name_span,
-            term,
-            divisor,
-            divisor_span,
-            span,
-        } => {
-            let (name, term) = dividend(alloc, name, term)?;
-            Ok(Node::Rem {
-                name,
-                name_span: *name_span,
-                term,
-                divisor: *divisor,
-                divisor_span: *divisor_span,
-                next,
-                span: *span,
-            })
-        }
-        Stmt::Call {
-            pat,
-            func,
-            func_span,
-            values,
-            proof,
-            span,
-        } => {
-            let pat = pat.copy(alloc)?;
-            let (func, values, proof) = called(alloc, func, values, proof)?;
-            Ok(Node::Call {
-                pat,
-                func,
-                func_span: *func_span,
-                values,
-                proof,
-                next,
-                span: *span,
-            })
-        }
-        Stmt::Fork {
-            name,
-            name_span,
-            proto,
-            func,
-            func_span,
-            values,
-            proof,
-            span,
-        } => {
-            let name = name.copy(alloc)?;
-            let proto = proto.copy(alloc)?;
-            let (func, values, proof) = called(alloc, func, values, proof)?;
-            Ok(Node::Fork {
-                name,
-                name_span: *name_span,
-                proto,
-                func,
-                func_span: *func_span,
-                values,
-                proof,
-                next,
-                span: *span,
-            })
-        }
-        Stmt::Send1 {
-            channel,
-            channel_span,
-            path,
-            path_span,
-            value,
-            proof,
-            span,
-        } => {
-            let (channel, path, proof) = access(alloc, channel, path, proof)?;
-            let value = value.copy(alloc)?;
-            Ok(Node::Send1 {
-                channel,
-                channel_span: *channel_span,
-                path,
-                path_span: *path_span,
-                value,
-                proof,
-                next,
-                span: *span,
-            })
-        }
-        Stmt::Recv1 {
-            pat,
-            channel,
-            channel_span,
-            path,
-            path_span,
-            proof,
-            span,
-        } => {
-            let pat = pat.copy(alloc)?;
-            let (channel, path, proof) = access(alloc, channel, path, proof)?;
-            Ok(Node::Recv1 {
-                pat,
-                channel,
-                channel_span: *channel_span,
-                path,
-                path_span: *path_span,
-                proof,
-                next,
-                span: *span,
-            })
-        }
-        Stmt::Split {
-            first,
-            second,
-            name,
-            name_span,
-            span,
-        } => {
-            let node = split_node(alloc, first, second, name, *name_span, next, *span)?;
-            Ok(node)
-        }
-        Stmt::Print { term, span } => {
-            let term = term.copy(alloc)?;
-            Ok(Node::Print {
-                term,
-                next,
-                span: *span,
-            })
-        }
+        Stmt::Let { .. } => let_node(alloc, stmt, next),
+        Stmt::Mul { .. } => mul_node(alloc, stmt, next),
+        Stmt::Div { .. } => div_node(alloc, stmt, next),
+        Stmt::Rem { .. } => rem_node(alloc, stmt, next),
+        Stmt::Call { .. } => call_node(alloc, stmt, next),
+        Stmt::Fork { .. } => fork_node(alloc, stmt, next),
+        Stmt::Send1 { .. } => send1_node(alloc, stmt, next),
+        Stmt::Recv1 { .. } => recv1_node(alloc, stmt, next),
+        Stmt::Split { .. } => split_node(alloc, stmt, next),
+        Stmt::Print { .. } => print_node(alloc, stmt, next),
         _ => unreachable!(),
     }
 }
