@@ -2,6 +2,7 @@ pub mod Clean
 pub mod Formed
 pub mod Known
 pub mod Nodes
+pub mod Bounded
 pub mod Found
 pub mod OneSpelling
 pub mod OneResult
