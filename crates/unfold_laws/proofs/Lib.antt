@@ -3,6 +3,7 @@ pub mod Formed
 pub mod Known
 pub mod Nodes
 pub mod Bounded
+pub mod Headed
 pub mod Found
 pub mod OneSpelling
 pub mod OneResult

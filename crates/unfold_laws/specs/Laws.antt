@@ -10,6 +10,7 @@ use Rattle.core_programs.specs.declared.nodes.Node.{Node}
 use Rattle.core_programs.specs.declared.nodes.Parts.{Parts}
 use Rattle.core_programs.specs.Bodies.{program_of}
 use Rattle.core_programs.specs.Form.{HasForm, IsFormed}
+use Rattle.protocols.specs.Heads.{Concrete, proto_named, Head, HasHead}
 use Rattle.protocols.specs.Unfolding.{Fault, Setting, HasArity, AreFormed, Found, Unfolds}
 use Rattle.unfold_laws.specs.References.{refs_of_res, refs_of_program, IsKnown, AreKnown, KnowTheirs}
 use Rattle.unfold_laws.specs.Forks.{refs_of_node}
@@ -38,6 +39,12 @@ KnownHasArity = (protos : List Proto) (ref : Ref) → IsKnown protos ref → Has
 -- each certificate of a node of such a program is within the bounds that `unfold` asks for
 abbrev pub NodesHaveBoundedCerts : Type 0
 NodesHaveBoundedCerts = (parts : Parts) (n : ℕ) (x : Node) → IsFormed parts → slice_get parts.nodes n ≡ Some x → All IsBounded (certs_of_node x)
+
+-- the table of such a program is guarded, so that each end of a protocol that is there does something next
+abbrev pub EndsHaveHeads : Type 0
+EndsHaveHeads =
+    (parts : Parts) (e : Concrete) (proto : Proto) → HasForm parts → proto_named e.name (map proto_of parts.protos) ≡ Some proto
+    → (ways : List Letter) × (head : Head) × HasHead (map proto_of parts.protos) e ways head
 
 -- ---- what unfolding finds
 

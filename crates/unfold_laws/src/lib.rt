@@ -1,7 +1,7 @@
-//! Programs of form are as `unfold` asks, and unfolding has one answer.
+//! Programs of form are as `unfold` asks and their ends have heads, and unfolding has one answer.
 #![tactic(auto)]
 
-ghost use Rattle.unfold_laws.specs.Laws.{FormHasFormedProtocols, FormKnowsReferences, NodesKnowReferences, KnownHasArity, NodesHaveBoundedCerts, FormKnowsTheirs, FindsKnown, SubstHasOneResult, UnfoldingHasOneAnswer};
+ghost use Rattle.unfold_laws.specs.Laws.{FormHasFormedProtocols, FormKnowsReferences, NodesKnowReferences, KnownHasArity, NodesHaveBoundedCerts, EndsHaveHeads, FormKnowsTheirs, FindsKnown, SubstHasOneResult, UnfoldingHasOneAnswer};
 
 /// What holds of programs of form, and of what unfolding answers. It does nothing.
 pub fn laws()
@@ -10,6 +10,7 @@ pub fn laws()
     ensures forks { NodesKnowReferences }
     ensures arity { KnownHasArity }
     ensures certs { NodesHaveBoundedCerts }
+    ensures heads { EndsHaveHeads }
     ensures theirs { FormKnowsTheirs }
     ensures found { FindsKnown }
     ensures result { SubstHasOneResult }
