@@ -2,6 +2,8 @@ pub mod Clean
 pub mod Formed
 pub mod Known
 pub mod Nodes
+pub mod Bounded
+pub mod Headed
 pub mod Found
 pub mod OneSpelling
 pub mod OneResult

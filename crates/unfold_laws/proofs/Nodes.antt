@@ -1,5 +1,6 @@
--- The reference of each node of a program of form is known.
-use Rattle.std.proofs.Common.{◌≡◌, ℕ, zero, suc, ◌<◌, List, [], ◌∷◌, map, length, Some, slice_get, sym, ap, ◌∙◌, subst, arith}
+-- Where no pass finds a fault, the operands of each node have none; so its reference is known.
+use Rattle.std.proofs.Common.{◌≡◌, ℕ, zero, suc, List, [], ◌∷◌, map, Some, slice_get, sym, ap, ◌∙◌, subst}
+use Rattle.std.proofs.lemmas.Option.{slice_get_within}
 use Rattle.chan_syntax.specs.declared.resources.Proto.{Proto}
 use Rattle.chan_syntax.specs.Reading.{proto_of}
 use Rattle.form_faults.specs.declared.sorts.Known.{Known}
@@ -12,7 +13,7 @@ use Rattle.core_programs.specs.declared.nodes.Func.{Func}
 use Rattle.core_programs.specs.declared.nodes.Parts.{Parts}
 use Rattle.core_programs.specs.Formed.{nexts, Leads, IsNumbered}
 use Rattle.core_programs.specs.Trees.{Tree, at_number, tree, grown}
-use Rattle.core_programs.specs.Passes.{first_binders, second_binders, body_faults, func_faults, funcs_faults, proto_signatures, func_signatures}
+use Rattle.core_programs.specs.Passes.{first_binders, second_binders, operand_faults, body_faults, func_faults, funcs_faults, proto_signatures, func_signatures}
 use Rattle.core_programs.specs.Form.{IsFormed}
 use Rattle.core_programs.proofs.Growing.{tree_grown}
 use Rattle.unfold_laws.specs.References.{AreKnown}
@@ -38,11 +39,6 @@ two_at_most (node.Match name name_at left this right other span) k m is = cc
 two_at_most (node.Absurd proof span) k m is = cc
 two_at_most (node.Ret value proof span) k m is = cc
 
-there : (ns : List Node) (n : ℕ) (x : Node) → slice_get ns n ≡ Some x → n < length ns
-there [] n x is = cc
-there (y ∷ ns) zero x is = omega arith
-there (y ∷ ns) (suc n) x is = omega (arith, there ns n x is)
-
 module _ (table : List Proto) (funcs : List Signature) (parts : Parts) (numbered : IsNumbered parts) where
   -- no fault in the body at a number, in some scope
   abbrev IsClean : ℕ → Type 0
@@ -53,7 +49,7 @@ module _ (table : List Proto) (funcs : List Signature) (parts : Parts) (numbered
 
   opened : (n : ℕ) (x : Node) (scope : List Known) → slice_get parts.nodes n ≡ Some x → body_faults (proto_signatures table) funcs scope (tree parts.nodes n) ≡ []
       → body_faults (proto_signatures table) funcs scope (grown x (tree parts.nodes)) ≡ []
-  opened n x scope is none = ap (body_faults (proto_signatures table) funcs scope) (sym (tree_grown parts n x numbered (there parts.nodes n x is) is)) ∙ none
+  opened n x scope is none = ap (body_faults (proto_signatures table) funcs scope) (sym (tree_grown parts n x numbered (slice_get_within parts.nodes n x is) is)) ∙ none
 
   -- nor in the bodies that its node names
   turned : (n : ℕ) (x : Node) (turn next : ℕ) → slice_get parts.nodes n ≡ Some x → slice_get (nexts x) turn ≡ Some next → IsClean n → IsClean next
@@ -80,12 +76,19 @@ module _ (table : List Proto) (funcs : List Signature) (parts : Parts) (numbered
       )
   clean_func (g ∷ fs) (suc f) func is none = clean_func fs f func is (none_right (func_faults (proto_signatures table) funcs parts.nodes g) _ none)
 
-  pub known_at : (n : ℕ) (x : Node) → slice_get parts.nodes n ≡ Some x → IsClean n → AreKnown (map proto_of table) (refs_of_node x)
-  known_at n x is (scope, none) = node_known table funcs scope x (parts_clean table funcs scope x (one_at 0 x) (one_at 1 x) (opened n x scope is none)).0
+  -- nor in the operands of its node
+  pub clean_at : (n : ℕ) (x : Node) → slice_get parts.nodes n ≡ Some x → IsClean n → (scope : List Known) × (operand_faults (proto_signatures table) funcs scope x ≡ [])
+  clean_at n x is (scope, none) = (scope, (parts_clean table funcs scope x (one_at 0 x) (one_at 1 x) (opened n x scope is none)).0)
+
+pub nodes_clean : (parts : Parts) (n : ℕ) (x : Node) → IsFormed parts → slice_get parts.nodes n ≡ Some x
+    → (scope : List Known) × (operand_faults (proto_signatures parts.protos) (func_signatures parts.funcs) scope x ≡ [])
+nodes_clean parts n x formed is =
+    let funcs = func_signatures parts.funcs in
+    let (f, turns, (func, has, leads), unique) = formed.numbered.once n (slice_get_within parts.nodes n x is) in
+    let first = clean_func parts.protos funcs parts formed.numbered parts.funcs f func has (funcs_clean parts formed.form) in
+    clean_at parts.protos funcs parts formed.numbered n x is (led parts.protos funcs parts formed.numbered turns func.first n leads first)
 
 pub nodes_known : (parts : Parts) (n : ℕ) (x : Node) → IsFormed parts → slice_get parts.nodes n ≡ Some x → AreKnown (map proto_of parts.protos) (refs_of_node x)
 nodes_known parts n x formed is =
-    let funcs = func_signatures parts.funcs in
-    let (f, turns, (func, has, leads), unique) = formed.numbered.once n (there parts.nodes n x is) in
-    let first = clean_func parts.protos funcs parts formed.numbered parts.funcs f func has (funcs_clean parts formed.form) in
-    known_at parts.protos funcs parts formed.numbered n x is (led parts.protos funcs parts formed.numbered turns func.first n leads first)
+    let (scope, none) = nodes_clean parts n x formed is in
+    node_known parts.protos (func_signatures parts.funcs) scope x none

@@ -1,17 +1,20 @@
 -- What programs of form have, and what unfolding answers.
-use Rattle.std.specs.Prelude.{◌≡◌, ℕ, List, map, Some, slice_get, Result, Ok}
+use Rattle.std.specs.Prelude.{◌≡◌, ℕ, List, All, map, Some, slice_get, Result, Ok}
 use Rattle.core_language.specs.Resources.{Ref, Res, Proto}
 use Rattle.core_language.specs.Operands.{Letter}
 use Rattle.linear_forms.specs.Terms.{IntVar}
 use Rattle.linear_forms.specs.Substitution.{IsSubst}
+use Rattle.chan_syntax.specs.Bounds.{IsBounded}
 use Rattle.chan_syntax.specs.Reading.{proto_of}
 use Rattle.core_programs.specs.declared.nodes.Node.{Node}
 use Rattle.core_programs.specs.declared.nodes.Parts.{Parts}
 use Rattle.core_programs.specs.Bodies.{program_of}
 use Rattle.core_programs.specs.Form.{HasForm, IsFormed}
+use Rattle.protocols.specs.Heads.{Concrete, proto_named, Head, HasHead}
 use Rattle.protocols.specs.Unfolding.{Fault, Setting, HasArity, AreFormed, Found, Unfolds}
 use Rattle.unfold_laws.specs.References.{refs_of_res, refs_of_program, IsKnown, AreKnown, KnowTheirs}
 use Rattle.unfold_laws.specs.Forks.{refs_of_node}
+use Rattle.unfold_laws.specs.Certs.{certs_of_node}
 use Rattle.unfold_laws.specs.Answers.{AreOneRes, AreAlike}
 
 -- ---- programs of form
@@ -32,6 +35,16 @@ NodesKnowReferences =
 -- a reference of which this is known has the arity that `unfold` asks for
 abbrev pub KnownHasArity : Type 0
 KnownHasArity = (protos : List Proto) (ref : Ref) → IsKnown protos ref → HasArity protos ref
+
+-- each certificate of a node of such a program is within the bounds that `unfold` asks for
+abbrev pub NodesHaveBoundedCerts : Type 0
+NodesHaveBoundedCerts = (parts : Parts) (n : ℕ) (x : Node) → IsFormed parts → slice_get parts.nodes n ≡ Some x → All IsBounded (certs_of_node x)
+
+-- the table of such a program is guarded, so that each end of a protocol that is there does something next
+abbrev pub EndsHaveHeads : Type 0
+EndsHaveHeads =
+    (parts : Parts) (e : Concrete) (proto : Proto) → HasForm parts → proto_named e.name (map proto_of parts.protos) ≡ Some proto
+    → (ways : List Letter) × (head : Head) × HasHead (map proto_of parts.protos) e ways head
 
 -- ---- what unfolding finds
 

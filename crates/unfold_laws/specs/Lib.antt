@@ -1,4 +1,5 @@
 pub mod References
 pub mod Forks
+pub mod Certs
 pub mod Answers
 pub mod Laws

@@ -1,7 +1,7 @@
-//! Programs of form are as `unfold` asks, and unfolding has one answer.
+//! Programs of form are as `unfold` asks and their ends have heads, and unfolding has one answer.
 #![tactic(auto)]
 
-ghost use Rattle.unfold_laws.specs.Laws.{FormHasFormedProtocols, FormKnowsReferences, NodesKnowReferences, KnownHasArity, FormKnowsTheirs, FindsKnown, SubstHasOneResult, UnfoldingHasOneAnswer};
+ghost use Rattle.unfold_laws.specs.Laws.{FormHasFormedProtocols, FormKnowsReferences, NodesKnowReferences, KnownHasArity, NodesHaveBoundedCerts, EndsHaveHeads, FormKnowsTheirs, FindsKnown, SubstHasOneResult, UnfoldingHasOneAnswer};
 
 /// What holds of programs of form, and of what unfolding answers. It does nothing.
 pub fn laws()
@@ -9,6 +9,8 @@ pub fn laws()
     ensures references { FormKnowsReferences }
     ensures forks { NodesKnowReferences }
     ensures arity { KnownHasArity }
+    ensures certs { NodesHaveBoundedCerts }
+    ensures heads { EndsHaveHeads }
     ensures theirs { FormKnowsTheirs }
     ensures found { FindsKnown }
     ensures result { SubstHasOneResult }
