@@ -1,5 +1,5 @@
 -- The text of a match, arm by arm.
-use Rattle.std.proofs.Common.{◌≡◌, ℕ, ◌+◌, codes, List, ◌++◌, ◌∙◌, arith}
+use Rattle.std.proofs.Common.{◌≡◌, ℕ, ◌+◌, codes, List, ◌++◌, arith}
 use Rattle.std.proofs.lemmas.Grind.{common_steps}
 use Rattle.chan_syntax.specs.declared.identifiers.Span.{Span}
 use Rattle.chan_syntax.specs.declared.operands.Pat.{Pat}
