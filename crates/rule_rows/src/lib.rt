@@ -2,6 +2,8 @@
 #![tactic(auto)]
 
 #[cfg(test)]
+mod certificates;
+#[cfg(test)]
 mod examples;
 #[cfg(test)]
 mod forms;
