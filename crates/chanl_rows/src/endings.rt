@@ -100,7 +100,7 @@ fn main() -> unit { let c = fork Fin() kid(); let a = 9223372036854775807 + 1; r
 ",
         "stopped range main",
     ),
-    // Values of a fork and of a send.
+    // A value of a fork.
     (
         REPLAY,
         "proto Put() = send int(1);

@@ -14,6 +14,8 @@ mod runs;
 #[cfg(test)]
 mod spellings;
 #[cfg(test)]
+mod streams;
+#[cfg(test)]
 mod words;
 #[cfg(test)]
 mod worked;

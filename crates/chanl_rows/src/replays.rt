@@ -166,7 +166,7 @@ fn main() -> unit { nest((), 256) with [256] }
 ",
         "finished",
     ),
-    // A certificate that shows nothing.
+    // A certificate that shows nothing: its constant is too large.
     (
         REPLAY,
         "fn need [x: x <= 0](a: int(x)) -> unit { ret () }
@@ -177,7 +177,7 @@ fn main() -> unit { ret () }
 ",
         "finished",
     ),
-    // A certificate that shows nothing.
+    // One of a hypothesis that isn't there.
     (
         REPLAY,
         "fn need [x: x <= 0](a: int(x)) -> unit { ret () }
@@ -188,7 +188,7 @@ fn main() -> unit { ret () }
 ",
         "finished",
     ),
-    // A certificate that shows nothing.
+    // One with a negative factor.
     (
         REPLAY,
         "fn need [x: x <= 0](a: int(x)) -> unit { ret () }
@@ -199,7 +199,7 @@ fn main() -> unit { ret () }
 ",
         "finished",
     ),
-    // A certificate that shows nothing.
+    // One with other coefficients.
     (
         REPLAY,
         "fn need [x: x <= 0](a: int(x)) -> unit { ret () }

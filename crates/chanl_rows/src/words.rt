@@ -7,7 +7,7 @@ const SEVEN: &[u8] = b"fn main() -> unit { print 7; ret () }\n";
 
 /// Rounds that are enough.
 const ENOUGH: [Row; 4] = [
-    // Rounds that are enough.
+    // As many as the run takes.
     (
         &["replay", "--rounds", "2"],
         "fn main() -> unit { print 7; ret () }

@@ -35,6 +35,39 @@ fn a_run_has_its_entries_in_order(rt: HostRuntime) -> Result<(), Fail> {
     Ok(())
 }
 
+const PRINTS_SEVEN: &[u8] = b"fn main() -> unit { print 7; ret () }";
+
+#[test]
+fn a_print_is_an_entry_of_its_round(rt: HostRuntime) -> Result<(), Fail> {
+    let alloc = rt.alloc();
+    let program = program(alloc, PRINTS_SEVEN)?;
+    let Replayed {
+        entries,
+        ending,
+        ..
+    } = replay(alloc, &program, 1)?;
+    assert_eq!(rt; entries.len(), 1);
+    assert!(rt; matches!(shown(&entries, 0, 1, true), Some(Event::Print(7))));
+    assert!(rt; matches!(&ending, Ending::Rounds));
+    Ok(())
+}
+
+#[test]
+fn a_run_of_one_print_takes_two_rounds(rt: HostRuntime) -> Result<(), Fail> {
+    let alloc = rt.alloc();
+    let program = program(alloc, PRINTS_SEVEN)?;
+    let Replayed {
+        entries,
+        ending,
+        ..
+    } = replay(alloc, &program, 2)?;
+    assert_eq!(rt; entries.len(), 2);
+    assert!(rt; matches!(shown(&entries, 0, 1, true), Some(Event::Print(7))));
+    assert!(rt; matches!(shown(&entries, 1, 2, true), Some(Event::End)));
+    assert!(rt; matches!(&ending, Ending::Finished));
+    Ok(())
+}
+
 /// How the run of the text ends.
 fn ending(alloc: Global, text: &[u8], rounds: u64) -> Result<Ending, Memory>
     requires { rounds ≤ 1000000000 }
