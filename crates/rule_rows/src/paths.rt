@@ -230,42 +230,6 @@ fn an_end_has_the_head_of_its_way(rt: HostRuntime) -> Result<(), Fail> {
 }
 
 #[test]
-fn an_end_that_ends_sends_or_receives_nothing(rt: HostRuntime) -> Result<(), Fail> {
-    let rows: [(Case<'_>, &[u8]); 4] = [
-        (((false, b"Quiet", N), &[], &[], LOW), b"0 send unit"),
-        (((true, b"Quiet", N), &[], &[], LOW), b"0 recv unit"),
-        (((false, b"Rest", N), &[], &[], LOW), b"0 recv unit"),
-        (((true, b"Rest", N), &[], &[], LOW), b"0 send unit"),
-    ];
-    for (case, want) in rows {
-        assert_eq!(rt; answer(rt.alloc(), &case)?.as_slice(), want);
-    }
-    Ok(())
-}
-
-#[test]
-fn a_message_keeps_its_binders_and_limits(rt: HostRuntime) -> Result<(), Fail> {
-    let rows: [(Case<'_>, &[u8]); 3] = [
-        (
-            ((false, b"Ask", N), &[], &[], LOW),
-            b"0 recv [k: +0 <= +1*k, +1*k <= +1*n] (int +1*k, end Stop)",
-        ),
-        (
-            ((true, b"Ask", (2, 1)), &[], &[], LOW),
-            b"0 send [k: +0 <= +1*k, +1*k <= +2*n+1] (int +1*k, end Stop)",
-        ),
-        (
-            ((false, b"Ask", (0, 9)), &[], &[], LOW),
-            b"0 recv [k: +0 <= +1*k, +1*k <= +9] (int +1*k, end Stop)",
-        ),
-    ];
-    for (case, want) in rows {
-        assert_eq!(rt; answer(rt.alloc(), &case)?.as_slice(), want);
-    }
-    Ok(())
-}
-
-#[test]
 fn the_form_of_the_path_comes_first(rt: HostRuntime) -> Result<(), Fail> {
     let rows: [(Case<'_>, &[u8]); 5] = [
         (((false, b"Ping", N), &[], &[], LOW), b"wrong form"),

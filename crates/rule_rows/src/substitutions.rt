@@ -38,7 +38,7 @@ fn text(alloc: Global, answer: Result<Res, SubstFault>) -> Result<Vec<u8>, Memor
 }
 
 /// A resource with a term put in for each of two names.
-pub(crate) fn answer(
+fn answer(
     alloc: Global,
     res: &Res,
     put: &[u8],

@@ -1,8 +1,6 @@
 //! Trees of what a table holds.
 use chan_base::Memory;
-use chan_syntax::{
-    Bound, Ident, Idents, Limit, Limits, Part, Ref, Relation, Res, Shape, Span, Term,
-};
+use chan_syntax::{Bound, Ident, Idents, Part, Res, Shape, Span, Term};
 use sqlite_items::{Boxed, Items};
 use std::alloc::Global;
 
@@ -18,9 +16,6 @@ pub(crate) type Times = (i64, u8);
 
 /// No name.
 pub(crate) const NONE: u8 = 0;
-
-/// A limit: a term, how it stands to another, and that one.
-pub(crate) type Within<'a> = (&'a [Times], Relation, &'a [Times]);
 
 fn part(alloc: Global, times: &Times) -> Result<Part, Memory> {
     let name = if times.1 == NONE {
@@ -56,63 +51,15 @@ pub(crate) fn names(alloc: Global, letters: &[u8]) -> Result<Idents, Memory> {
     Ok(names)
 }
 
-fn limits(alloc: Global, all: &[Within<'_>]) -> Result<Limits, Memory> {
-    let mut limits = Items::new(alloc);
-    for (left, relation, right) in all {
-        limits.push(Limit {
-            left: term(alloc, left)?,
-            relation: *relation,
-            right: term(alloc, right)?,
-        })?;
-    }
-    Ok(limits)
-}
-
-/// A shape under binders that keep limits.
-pub(crate) fn limited(
-    alloc: Global,
-    binders: &[u8],
-    all: &[Within<'_>],
-    shape: Shape,
-) -> Result<Res, Memory> {
+fn res(alloc: Global, binders: &[u8], shape: Shape) -> Result<Res, Memory> {
     Ok(Res {
         bound: Bound {
             names: names(alloc, binders)?,
             names_spans: Items::new(alloc),
-            limits: limits(alloc, all)?,
+            limits: Items::new(alloc),
         },
         shape,
     })
-}
-
-fn res(alloc: Global, binders: &[u8], shape: Shape) -> Result<Res, Memory> {
-    limited(alloc, binders, &[], shape)
-}
-
-/// An integer under binders.
-pub(crate) fn int(alloc: Global, binders: &[u8], times: &[Times]) -> Result<Res, Memory> {
-    let term = term(alloc, times)?;
-    res(alloc, binders, Shape::Int(term))
-}
-
-/// The dual end of a protocol at two terms, under binders.
-pub(crate) fn dual_end(
-    alloc: Global,
-    binders: &[u8],
-    first: &[Times],
-    second: &[Times],
-) -> Result<Res, Memory> {
-    let mut args = Items::new(alloc);
-    args.push(term(alloc, first)?)?;
-    args.push(term(alloc, second)?)?;
-    let end = Ref {
-        dual: true,
-        name: Ident::from_slice(alloc, b"P")?,
-        name_span: NOWHERE,
-        args,
-        span: NOWHERE,
-    };
-    res(alloc, binders, Shape::End(end))
 }
 
 /// A pair of an integer and nothing, under binders, of which the inner ones are around the integer
@@ -123,7 +70,7 @@ pub(crate) fn pair(
     inner: &[u8],
     times: &[Times],
 ) -> Result<Res, Memory> {
-    let int = int(alloc, inner, times)?;
+    let int = res(alloc, inner, Shape::Int(term(alloc, times)?))?;
     let nothing = res(alloc, b"", Shape::Unit)?;
     let first = Boxed::new(alloc, int)?;
     let second = Boxed::new(alloc, nothing)?;
