@@ -8,6 +8,7 @@ use Rattle.std.proofs.lemmas.Bool.{and_parts}
 use Rattle.core_language.specs.Names.{Name, main, same}
 use Rattle.core_language.specs.Programs.{Function, function_named, main_function}
 use Rattle.core_language.specs.Programs as core
+use Rattle.core_language.specs.Endings.{is_nil}
 use Rattle.core_language.specs.Configurations.{Task, started}
 use Rattle.form_faults.specs.declared.faults.Ill.{Ill}
 use Rattle.form_faults.specs.declared.sorts.Sort.TheVariants as sort
@@ -18,7 +19,7 @@ use Rattle.core_programs.specs.declared.nodes.Node.{Node}
 use Rattle.core_programs.specs.declared.nodes.Func.{Func}
 use Rattle.core_programs.specs.declared.nodes.Parts.{Parts}
 use Rattle.core_programs.specs.Bodies.{param_of, function_of, program_of}
-use Rattle.core_programs.specs.Passes.{proto_names, func_names, is_nil, is_unbound, is_unit, is_main, no_main}
+use Rattle.core_programs.specs.Passes.{proto_names, func_names, is_unbound, is_unit, is_main, no_main}
 use Rattle.core_programs.specs.Form.{IsFormed}
 use Rattle.frame_laws.specs.Fits.{Fits}
 use Rattle.frame_laws.specs.Laws.{FitsItsStart}
