@@ -4,7 +4,7 @@ use Rattle.std.proofs.lemmas.Bool.{and_from}
 use Rattle.std.proofs.lemmas.List.{take-append-drop, length-take-le, length-drop, take_all, map-append}
 use Rattle.std.proofs.lemmas.List.Sums.{count_by-le-length, suffix_len-le-length}
 use Rattle.std.specs.List.{list_all, count_by, suffix_len}
-use Rattle.chan_syntax.specs.declared.identifiers.Span.{Span}
+use Rattle.chan_base.specs.declared.spans.Span.{Span}
 use Rattle.text_tokens.specs.declared.TokenKind.{TokenKind}
 use Rattle.text_tokens.specs.Text.{Piece, separator, comment, token, is_line_end, is_in_line, bytes_of, text_of, FitsBefore, IsCutBefore, span_behind, tokens_behind, HasTokens, text_at, Fault, bad_byte, bad_token, number_too_large, StandsBetween, IsFirstFault}
 use Rattle.text_tokens.proofs.Forms.{all_imply, is_plain, plain-in_line, form-plain}

@@ -1,7 +1,7 @@
 -- Places of a text.
 use Rattle.std.specs.Prelude.{ℕ, ◌+◌, List, length}
 use Rattle.std.specs.List.{count_by, suffix_len}
-use Rattle.chan_syntax.specs.declared.identifiers.Span.{Span}
+use Rattle.chan_base.specs.declared.spans.Span.{Span}
 use Rattle.text_tokens.specs.Text.{is_line_end, is_in_line}
 use Rattle.chan_lexer.specs.declared.place.Place.{Place}
 

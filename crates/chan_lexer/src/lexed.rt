@@ -7,7 +7,7 @@ ghost use Rattle.chan_lexer.specs.Lexed.{tokens_of};
 ghost use Rattle.chan_lexer.specs.Spelled.{spelled};
 
 use crate::token::{Token, TokenList};
-use chan_syntax::Span;
+use chan_base::Span;
 use sqlite_items::Items;
 use std::marker::Model;
 

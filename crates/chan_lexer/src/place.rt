@@ -3,7 +3,7 @@
 ghost use Rattle.std.specs.Prelude.{◌≡◌, ◌<◌, ◌+◌, ◌^◌, []};
 ghost use Rattle.chan_lexer.specs.Place as spec;
 
-use chan_syntax::Span;
+use chan_base::Span;
 
 /// What lines and columns count from.
 const FIRST: u32 = 1;

@@ -1,6 +1,6 @@
 //! Tokens and the faults of a text.
 
-use chan_syntax::Span;
+use chan_base::Span;
 use sqlite_items::Items;
 use std::alloc::AllocError;
 use text_tokens::TokenKind;

@@ -1,5 +1,5 @@
 -- What the effect of an act is, by its kind.
-use Rattle.std.proofs.Common.{◌≡◌, ℕ, suc, false, ℤ, List, [], ◌∷◌, ◌++◌, Option, Some, None, refl, sym, ap, ◌∙◌}
+use Rattle.std.proofs.Common.{◌≡◌, ℕ, suc, false, ℤ, List, [], ◌∷◌, ◌++◌, Option, Some, None, refl, sym, ap, subst, ◌∙◌}
 use Rattle.std.specs.Option.{option_map}
 use Rattle.std.specs.Ordering.{nat_cmp, eq_by_cmp}
 use Rattle.std.specs.Cmp.Lexicographic.{slice_cmp}
@@ -222,3 +222,31 @@ prints_now C p k a tasks puts z w y s is ts ps shows same other =
     let made : NameMap core.Task → List (Name × ℤ) → ℤ → Step = λ x ys v. Moves (record { tasks = x; channels = C.channels; prints = ys }) (Print v) in
     print_effect C p k a z is ∙ ap (λ v. made (insert C.tasks p (record { place = place_after a; forks = k })) (C.prints ++ (p, v) ∷ []) z) same
     ∙ ap (λ x. made x (C.prints ++ (p, w) ∷ []) z) (sym ts) ∙ ap (λ ys. made tasks ys z) (sym ps) ∙ ap (made tasks puts) other ∙ sym (shows (record { tasks = tasks; channels = C.channels; prints = puts }))
+
+-- a send and a receive look at a channel
+pub sends_somewhere : (a : Act) → kind.Send ≡ kind_of a → None ≡ channel_in a → ⊥
+sends_somewhere (act.Send c v place) is none = cc
+sends_somewhere (act.Recv c place) is none = cc
+sends_somewhere (act.Silent place) is none = cc
+sends_somewhere (act.Print z place) is none = cc
+sends_somewhere (act.Fork c parent its) is none = cc
+sends_somewhere act.End is none = cc
+sends_somewhere act.IsEnded is none = cc
+sends_somewhere (act.IsHalted why) is none = cc
+sends_somewhere (act.IsStuck why) is none = cc
+
+pub receives_somewhere : (a : Act) → kind.Recv ≡ kind_of a → None ≡ channel_in a → ⊥
+receives_somewhere (act.Recv c place) is none = cc
+receives_somewhere (act.Send c v place) is none = cc
+receives_somewhere (act.Silent place) is none = cc
+receives_somewhere (act.Print z place) is none = cc
+receives_somewhere (act.Fork c parent its) is none = cc
+receives_somewhere act.End is none = cc
+receives_somewhere act.IsEnded is none = cc
+receives_somewhere (act.IsHalted why) is none = cc
+receives_somewhere (act.IsStuck why) is none = cc
+
+-- of one task what is said of its next act holds under its name
+pub acts_here : (P : Act → Type 0) (program : Parts) (m : BTreeMap Name Task) (p : Name) (t : Task) → looked_up (slice_cmp nat_cmp) m p ≡ Some t → P (act_in program t)
+    → (u : Task) → looked_up (slice_cmp nat_cmp) m p ≡ Some u → P (act_in program u)
+acts_here P program m p t found holds u there = subst (λ x. P (act_in program x)) (one_task m p t u found there) holds

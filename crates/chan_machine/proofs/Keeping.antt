@@ -1,5 +1,6 @@
 -- A task written in a map of tasks.
-use Rattle.std.proofs.Common.{◌≡◌, ◌+◌, ◌++◌, ◌∷◌, [], length, arith, ℕ, suc, Bool, true, false, cond, Some, refl, ap, subst, sym, ◌∙◌}
+use Rattle.std.proofs.Common.{◌≡◌, ◌+◌, ◌++◌, ◌∷◌, [], length, arith, ℕ, suc, Bool, true, false, cond, Option, Some, None, refl, ap, subst, sym, ◌∙◌}
+use Rattle.std.specs.Prelude.{IfSome}
 use Rattle.std.specs.Option.{option_map}
 use Rattle.std.specs.Ordering.{nat_cmp, eq_by_cmp}
 use Rattle.std.specs.Cmp.Lexicographic.{slice_cmp, nat_list_cmp_total}
@@ -16,6 +17,11 @@ use Rattle.machine_tasks.specs.Fits.{FramesFit}
 use Rattle.machine_tasks.specs.Moving.{place_after}
 use Rattle.machine_tasks.specs.Reading.{act_in, place_of, task_of}
 use Rattle.chan_machine.specs.Reading.{map_of}
+use Rattle.machine_values.specs.declared.values.Value.{Value}
+use Rattle.machine_values.specs.Cells.{EndTest}
+use Rattle.machine_values.specs.Ends.{ValuePasses}
+use Rattle.machine_tasks.specs.Ends.{TaskPasses}
+use Rattle.chan_machine.specs.Ends.{ChannelsPass, TasksPass}
 use Rattle.chan_machine.specs.Fits.{TasksFit}
 use Rattle.chan_machine.proofs.Maps.{get-map_of, put-map_of, equal_from}
 
@@ -39,6 +45,28 @@ fits_put program m n k v fits put name frames p t found = by (eq_by_cmp (slice_c
         let at : k ≡ p = exact_bytes k p (equal_from (slice_cmp nat_cmp k p) e) in
         subst (λ x. (x.name ≡ p) × FramesFit program.nodes x.frames.items) same (name ∙ at, frames)
     by false e is = fits p t is
+
+-- no end is new where the task has none
+pub passes_put : (test : EndTest) (m n : BTreeMap Name Task) (k : Name) (v : Task) → TasksPass test m → Updates (slice_cmp nat_cmp) m n k (Some v) → TaskPasses test v → TasksPass test n
+passes_put test m n k v passes put one p t found = by (eq_by_cmp (slice_cmp nat_cmp) k p) (sym (put.0 p) ∙ found)
+  where
+    by : (b : Bool) → cond b (Some v) (looked_up (slice_cmp nat_cmp) m p) ≡ Some t → TaskPasses test t
+    by true is = let same : v ≡ t = cc in subst (TaskPasses test) same one
+    by false is = passes p t is
+
+pub channels_put : (test : EndTest) (m n : BTreeMap Name (Option Value)) (k : Name) (w : Option Value) → ChannelsPass test m → Updates (slice_cmp nat_cmp) m n k (Some w) → IfSome w (ValuePasses test) → ChannelsPass test n
+channels_put test m n k w passes put one c v found = by (eq_by_cmp (slice_cmp nat_cmp) k c) (sym (put.0 c) ∙ found)
+  where
+    by : (b : Bool) → cond b (Some w) (looked_up (slice_cmp nat_cmp) m c) ≡ Some (Some v) → ValuePasses test v
+    by true is = let same : w ≡ Some v = cc in subst (λ o. IfSome o (ValuePasses test)) same one
+    by false is = passes c v is
+
+pub channels_taken : (test : EndTest) (m n : BTreeMap Name (Option Value)) (k : Name) → ChannelsPass test m → Updates (slice_cmp nat_cmp) m n k None → ChannelsPass test n
+channels_taken test m n k passes put c v found = by (eq_by_cmp (slice_cmp nat_cmp) k c) (sym (put.0 c) ∙ found)
+  where
+    by : (b : Bool) → cond b None (looked_up (slice_cmp nat_cmp) m c) ≡ Some (Some v) → ValuePasses test v
+    by true is = let bad : ⊥ = cc in absurd bad
+    by false is = passes c v is
 
 pub stayed : (program : Parts) (m n : BTreeMap Name Task) (k : Name) (old new : Task) → looked_up (slice_cmp nat_cmp) m k ≡ Some old → Updates (slice_cmp nat_cmp) m n k (Some new)
     → place_of program.nodes new.frames.items ≡ place_of program.nodes old.frames.items → new.forks ≡ old.forks → map_of (task_of program.nodes) n ≡ map_of (task_of program.nodes) m

@@ -5,10 +5,12 @@ use Rattle.std.specs.Ordering.{nat_cmp}
 use Rattle.std.specs.Cmp.Lexicographic.{slice_cmp}
 use Rattle.std.specs.BTreeMap.{BTreeMap, get}
 use Rattle.core_language.specs.Names.{Name}
+use Rattle.core_language.specs.Acts.{Act}
 use Rattle.core_programs.specs.declared.nodes.Parts.{Parts}
 use Rattle.machine_tasks.specs.declared.tasks.Task.{Task}
 use Rattle.machine_tasks.specs.Fits.{FramesFit}
 use Rattle.machine_tasks.specs.Moving.{HasRoom}
+use Rattle.machine_tasks.specs.Reading.{act_in}
 use Rattle.chan_machine.specs.declared.events.Stepped.{Stepped}
 use Rattle.chan_machine.specs.declared.events.Stepped.TheVariants as stepped
 use Rattle.chan_machine.specs.declared.configurations.Config.{Config}
@@ -31,6 +33,10 @@ ForksAt tasks p = (t : Task) → get (slice_cmp nat_cmp) tasks p ≡ Some t → 
 abbrev pub is_moved : Stepped → Bool
 is_moved (stepped.Moved event) = true
 is_moved other = false
+
+-- the next act of the task is such a one
+abbrev pub ActsAt : (Act → Type 0) → Parts → BTreeMap Name Task → Name → Type 0
+ActsAt P program tasks p = (t : Task) → get (slice_cmp nat_cmp) tasks p ≡ Some t → P (act_in program t)
 
 -- the task's top frame has room for one more variable
 abbrev pub RoomAt : BTreeMap Name Task → Name → Type 0

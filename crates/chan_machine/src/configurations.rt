@@ -26,7 +26,7 @@ pub struct Store {
 #[derive(Debug, Drop)]
 pub struct Put {
     pub name: Name,
-    pub number: i64,
+    pub number: i128,
 }
 
 /// Tasks by their names, ended ones too; channels by theirs; and the prints in the order in which

@@ -11,7 +11,7 @@ pub enum Event {
     Fork(Name),
     Send(Name),
     Recv(Name),
-    Print(i64),
+    Print(i128),
     End,
 }
 

@@ -1,17 +1,21 @@
 //! Sends, receives and forks of a configuration.
-ghost use Rattle.std.specs.Prelude.{◌≡◌, false, Some, None, IsSome, IfOk, OnOk, OnErr};
+ghost use Rattle.std.specs.Prelude.{◌≡◌, true, false, Some, None, IsSome, IfOk, OnOk, OnErr};
 ghost use Rattle.std.specs.Option.{option_map};
 ghost use Rattle.std.specs.Ordering.{nat_cmp};
 ghost use Rattle.std.specs.Cmp.Lexicographic.{slice_cmp};
 ghost use Rattle.std.specs.BTreeMap.{Updates, get as looked_up};
+ghost use Rattle.core_language.specs.Names.{Name as NameOf};
 ghost use Rattle.core_language.specs.Steps.{effect};
+ghost use Rattle.machine_values.specs.Cells.{EndTest};
 ghost use Rattle.machine_values.specs.Reading.{value_as};
 ghost use Rattle.machine_tasks.specs.declared.tasks.Task.{Task};
 ghost use Rattle.machine_tasks.specs.Channels.{channel_in};
 ghost use Rattle.machine_tasks.specs.Kinds.{kind_of, Fork, Send, Recv};
 ghost use Rattle.machine_tasks.specs.Reading.{act_in};
+ghost use Rattle.machine_tasks.specs.Sharing.{IsFork, IsRecv, IsSend};
 ghost use Rattle.chan_machine.specs.Reading.{config_of, map_of, step_of};
-ghost use Rattle.chan_machine.specs.Fits.{Fits, ForksAt, RoomAt, is_moved};
+ghost use Rattle.chan_machine.specs.Ends.{ConfigPasses};
+ghost use Rattle.chan_machine.specs.Fits.{ActsAt, Fits, ForksAt, RoomAt, is_moved};
 
 use crate::configurations::Config;
 use crate::events::{Event, Stepped};
@@ -31,14 +35,17 @@ pub(crate) fn send(
     channel: Name,
 ) -> Result<Stepped, Memory>
     requires fits { Fits program.now config.old }
+    requires there { IsSome (looked_up (slice_cmp nat_cmp) config.old.tasks name.now) }
+    requires act { ActsAt IsSend program.now config.old.tasks name.now }
     ensures value { IfOk result (λ s. (t : Task) → looked_up (slice_cmp nat_cmp) config.old.tasks name.now ≡ Some t → Send ≡ kind_of (act_in program.now t) → Some channel ≡ channel_in (act_in program.now t)
         → effect (config_of program.now config.old) name.now t.forks (act_in program.now t) ≡ step_of (config_of program.now config.new) s) }
     ensures still { IfOk result (λ s. is_moved s ≡ false → config_of program.now config.new ≡ config_of program.now config.old) }
     ensures err { OnErr result (config_of program.now config.new ≡ config_of program.now config.old) }
     ensures fits { Fits program.now config.new }
+    ensures ends { OnOk result ((test : EndTest) → ConfigPasses test config.old → ConfigPasses test config.new) }
 {
     let Some(task) = config.tasks.get(name) else {
-        return Err(Memory);
+        unreachable!();
     };
     let Parcel { value, next } = task.parcel(alloc, program)?;
     match config.channels.get(&channel) {
@@ -61,15 +68,18 @@ pub(crate) fn receive(
     channel: Name,
 ) -> Result<Stepped, Memory>
     requires fits { Fits program.now config.old }
+    requires there { IsSome (looked_up (slice_cmp nat_cmp) config.old.tasks name.now) }
+    requires act { ActsAt IsRecv program.now config.old.tasks name.now }
     requires room { RoomAt config.old.tasks name.now }
     ensures value { IfOk result (λ s. (t : Task) → looked_up (slice_cmp nat_cmp) config.old.tasks name.now ≡ Some t → Recv ≡ kind_of (act_in program.now t) → Some channel ≡ channel_in (act_in program.now t)
         → effect (config_of program.now config.old) name.now t.forks (act_in program.now t) ≡ step_of (config_of program.now config.new) s) }
     ensures still { IfOk result (λ s. is_moved s ≡ false → config_of program.now config.new ≡ config_of program.now config.old) }
     ensures err { OnErr result (config_of program.now config.new ≡ config_of program.now config.old) }
     ensures fits { Fits program.now config.new }
+    ensures ends { OnOk result ((test : EndTest) → ConfigPasses test config.old → ConfigPasses test config.new) }
 {
     let Some(task) = config.tasks.get(name) else {
-        return Err(Memory);
+        unreachable!();
     };
     let Slot {
         name: variable,
@@ -87,7 +97,7 @@ pub(crate) fn receive(
                 accept(program, &mut config.tasks, name, bind, next);
                 Ok(Stepped::Moved(Event::Recv(channel)))
             }
-            _ => Err(Memory),
+            _ => unreachable!(),
         },
     }
 }
@@ -140,6 +150,8 @@ pub(crate) fn fork(
     name: &Name,
 ) -> Result<Stepped, Memory>
     requires fits { Fits program.now config.old }
+    requires there { IsSome (looked_up (slice_cmp nat_cmp) config.old.tasks name.now) }
+    requires act { ActsAt IsFork program.now config.old.tasks name.now }
     requires room { RoomAt config.old.tasks name.now }
     requires forks { ForksAt config.old.tasks name.now }
     ensures value { IfOk result (λ s. (t : Task) → looked_up (slice_cmp nat_cmp) config.old.tasks name.now ≡ Some t → Fork ≡ kind_of (act_in program.now t)
@@ -147,9 +159,10 @@ pub(crate) fn fork(
     ensures still { IfOk result (λ s. is_moved s ≡ false → config_of program.now config.new ≡ config_of program.now config.old) }
     ensures err { OnErr result (config_of program.now config.new ≡ config_of program.now config.old) }
     ensures fits { Fits program.now config.new }
+    ensures ends { OnOk result ((test : EndTest) → ((c : NameOf) → test c 0 ≡ true) → ConfigPasses test config.old → ConfigPasses test config.new) }
 {
     let Some(task) = config.tasks.get(name) else {
-        return Err(Memory);
+        unreachable!();
     };
     let made = task.offspring(alloc, program, Number(0))?;
     let Offspring { child, end, next } = made;

@@ -56,7 +56,7 @@ fn look_receive(
 }
 
 /// The answer of a step that prints the number.
-pub(crate) fn printed(number: i64) -> Stepped
+pub(crate) fn printed(number: i128) -> Stepped
     ensures shows { (C : ConfigOf) → step_of C result ≡ Moves C (Print number) }
     ensures moved { is_moved result ≡ true }
 {
@@ -90,11 +90,11 @@ pub fn look(
         }
         Act::Send => match task.channel(program) {
             Some(channel) => look_send(alloc, &config.channels, channel),
-            None => Err(Memory),
+            None => unreachable!(),
         },
         Act::Recv => match task.channel(program) {
             Some(channel) => look_receive(alloc, &config.channels, channel),
-            None => Err(Memory),
+            None => unreachable!(),
         },
     }
 }

@@ -3,6 +3,7 @@ ghost use Rattle.std.specs.Prelude.{◌≡◌, ◌≤◌, map, IfOk};
 ghost use Rattle.core_language.specs.Endings.{ending_of};
 ghost use Rattle.core_language.specs.Rounds.{run_of};
 ghost use Rattle.core_programs.specs.Bodies.{program_of};
+ghost use Rattle.chan_machine.specs.Ends.{IsOnOneThread};
 ghost use Rattle.chan_machine.specs.Fits.{Fits};
 ghost use Rattle.chan_machine.specs.Reading.{config_of, ending_as, entry_of};
 
@@ -30,6 +31,7 @@ pub fn replay(alloc: Global, program: &Program, rounds: u64) -> Result<Replayed,
     ensures entries { IfOk result (λ replayed. map entry_of replayed.entries ≡ (run_of (program_of program.now) rounds).entries) }
     ensures ending { IfOk result (λ replayed. ending_as replayed.ending ≡ ending_of (program_of program.now) (run_of (program_of program.now) rounds).config) }
     ensures fits { IfOk result (λ replayed. Fits program.now replayed.config) }
+    ensures cells { IfOk result (λ replayed. IsOnOneThread replayed.config) }
 {
     let Run { config, entries } = run_rounds(alloc, program, rounds)?;
     let ending = ending(alloc, program, &config)?;

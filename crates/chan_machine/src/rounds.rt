@@ -3,6 +3,7 @@ ghost use Rattle.std.specs.Prelude.{◌≡◌, ◌<◌, ◌≤◌, suc, IfOk, On
 ghost use Rattle.core_language.specs.Rounds.{round as round_of, run_of};
 ghost use Rattle.core_programs.specs.Bodies.{program_of};
 ghost use Rattle.machine_rounds.specs.Showing.{ForksUpTo};
+ghost use Rattle.chan_machine.specs.Ends.{IsOnOneThread};
 ghost use Rattle.chan_machine.specs.Fits.{Fits};
 ghost use Rattle.chan_machine.specs.Parking.{is_ready};
 ghost use Rattle.chan_machine.specs.Reading.{config_of};
@@ -34,6 +35,7 @@ fn round(
     ensures parked { IfOk result (λ next. Parked program.now run.new (is_ready next.ready) next.waiting) }
     ensures forks { OnOk result (ForksUpTo (suc before) (config_of program.now run.new.config).tasks) }
     ensures fits { OnOk result (Fits program.now run.new.config) }
+    ensures cells { OnOk result (IsOnOneThread run.old.config → IsOnOneThread run.new.config) }
 {
     let Queue { ready, mut waiting } = queue;
     let _ordered = ready.len();
@@ -61,6 +63,7 @@ fn run_all(
     requires parked { Parked program.now run.old (is_ready queue.ready) queue.waiting }
     ensures run { OnOk result (run_as program.now run.new ≡ run_of (program_of program.now) rounds) }
     ensures fits { OnOk result (Fits program.now run.new.config) }
+    ensures cells { OnOk result (IsOnOneThread run.old.config → IsOnOneThread run.new.config) }
 {
     let mut queue = queue;
     let mut time = 0;
@@ -76,6 +79,7 @@ pub(crate) fn run_rounds(alloc: Global, program: &Program, rounds: u64) -> Resul
     requires rounds { rounds ≤ 1000000000 }
     ensures run { IfOk result (λ run. run_as program.now run ≡ run_of (program_of program.now) rounds) }
     ensures fits { IfOk result (λ run. Fits program.now run.config) }
+    ensures cells { IfOk result (λ run. IsOnOneThread run.config) }
 {
     let config = start(alloc, program)?;
     let mut ready = BTreeSet::new(alloc);

@@ -1,7 +1,10 @@
 //! Steps by name.
-ghost use Rattle.std.specs.Prelude.{◌≡◌, ◌⊎◌, false, IfOk, OnErr};
+ghost use Rattle.std.specs.Prelude.{◌≡◌, ◌⊎◌, true, false, IfOk, OnOk, OnErr};
+ghost use Rattle.core_language.specs.Names.{Name as NameOf};
 ghost use Rattle.core_language.specs.Steps.{machine_step, step as step_without_limits};
 ghost use Rattle.core_programs.specs.Bodies.{program_of};
+ghost use Rattle.machine_values.specs.Cells.{EndTest};
+ghost use Rattle.chan_machine.specs.Ends.{ConfigPasses};
 ghost use Rattle.chan_machine.specs.Reading.{config_of, step_of};
 ghost use Rattle.chan_machine.specs.Fits.{Fits, ForksAt, IsHalt, RoomAt, is_moved};
 
@@ -29,6 +32,7 @@ fn make_step(
     ensures still { IfOk result (λ s. is_moved s ≡ false → config_of program.now config.new ≡ config_of program.now config.old) }
     ensures err { OnErr result (config_of program.now config.new ≡ config_of program.now config.old) }
     ensures fits { Fits program.now config.new }
+    ensures ends { OnOk result ((test : EndTest) → ((c : NameOf) → test c 0 ≡ true) → ConfigPasses test config.old → ConfigPasses test config.new) }
 {
     let Some(task) = config.tasks.get(name) else {
         return Ok(Stepped::Absent);
@@ -62,14 +66,14 @@ fn make_step(
                 let channel = channel.name.copy(alloc)?;
                 send(alloc, program, config, name, channel)
             }
-            None => Err(Memory),
+            None => unreachable!(),
         },
         Act::Recv => match task.channel(program) {
             Some(channel) => {
                 let channel = channel.name.copy(alloc)?;
                 receive(alloc, program, config, name, channel)
             }
-            None => Err(Memory),
+            None => unreachable!(),
         },
     }
 }
@@ -88,6 +92,7 @@ pub fn step(
     ensures still { IfOk result (λ s. is_moved s ≡ false → config_of program.now config.new ≡ config_of program.now config.old) }
     ensures err { OnErr result (config_of program.now config.new ≡ config_of program.now config.old) }
     ensures fits { Fits program.now config.new }
+    ensures ends { OnOk result ((test : EndTest) → ((c : NameOf) → test c 0 ≡ true) → ConfigPasses test config.old → ConfigPasses test config.new) }
 {
     make_room(&mut config.tasks, name)?;
     make_step(alloc, program, config, name)

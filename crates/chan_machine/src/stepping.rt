@@ -7,13 +7,15 @@ ghost use Rattle.std.specs.BTreeMap.{Updates, get as looked_up};
 ghost use Rattle.core_language.specs.Configurations.{start as start_of};
 ghost use Rattle.core_programs.specs.declared.nodes.Parts.{Parts};
 ghost use Rattle.core_programs.specs.Bodies.{program_of};
+ghost use Rattle.machine_values.specs.Cells.{EndTest};
+ghost use Rattle.machine_values.specs.Ends.{ValuePasses};
 ghost use Rattle.machine_values.specs.Reading.{value_as};
 ghost use Rattle.machine_tasks.specs.declared.tasks.Task.{Task};
-ghost use Rattle.machine_tasks.specs.Moving.{at_node, place_after};
+ghost use Rattle.machine_tasks.specs.Moving.{IsQuiet, at_node, place_after, place_with};
 ghost use Rattle.machine_tasks.specs.Reading.{act_in, place_of, task_of};
-ghost use Rattle.machine_tasks.specs.Sharing.{place_with};
 ghost use Rattle.chan_machine.specs.Reading.{config_of, map_of, prints_of};
-ghost use Rattle.chan_machine.specs.Fits.{Fits, ForksAt, RoomAt, TasksFit};
+ghost use Rattle.chan_machine.specs.Ends.{ConfigPasses, TasksPass};
+ghost use Rattle.chan_machine.specs.Fits.{ActsAt, Fits, ForksAt, RoomAt, TasksFit};
 
 use crate::configurations::{Config, Put, Puts};
 use chan_base::{Memory, Name};
@@ -27,6 +29,7 @@ use std::collections::BTreeMap;
 pub fn start(alloc: Global, program: &Program) -> Result<Config, Memory>
     ensures value { IfOk result (λ config. config_of program.now config ≡ start_of (program_of program.now)) }
     ensures fits { IfOk result (λ config. Fits program.now config) }
+    ensures ends { IfOk result (λ config. (test : EndTest) → ConfigPasses test config) }
 {
     let main = Task::main(alloc, program)?;
     let mut tasks = BTreeMap::new(alloc);
@@ -46,10 +49,12 @@ pub(crate) fn advance(
     name: &Name,
 ) -> Result<(), Memory>
     requires fits { TasksFit program.now tasks.old }
+    requires act { ActsAt IsQuiet program.now tasks.old name.now }
     ensures ok { (t : Task) → looked_up (slice_cmp nat_cmp) tasks.old name.now ≡ Some t
         → OnOk result (map_of (task_of program.now.nodes) tasks.new ≡ insert (map_of (task_of program.now.nodes) tasks.old) name.now (record { place = place_after (act_in program.now t); forks = t.forks })) }
     ensures err { OnErr result (map_of (task_of program.now.nodes) tasks.new ≡ map_of (task_of program.now.nodes) tasks.old) }
     ensures fits { TasksFit program.now tasks.new }
+    ensures ends { (test : EndTest) → TasksPass test tasks.old → TasksPass test tasks.new }
 {
     if let Some(task) = tasks.get_mut(name) {
         task.advance(alloc, program)?;
@@ -64,15 +69,17 @@ pub(crate) fn print(
     tasks: &mut BTreeMap<Name, Task>,
     prints: &mut Puts,
     name: &Name,
-    number: i64,
+    number: i128,
 ) -> Result<(), Memory>
     requires fits { TasksFit program.now tasks.old }
+    requires act { ActsAt IsQuiet program.now tasks.old name.now }
     ensures ok { (t : Task) → looked_up (slice_cmp nat_cmp) tasks.old name.now ≡ Some t
         → OnOk result (map_of (task_of program.now.nodes) tasks.new ≡ insert (map_of (task_of program.now.nodes) tasks.old) name.now (record { place = place_after (act_in program.now t); forks = t.forks })) }
     ensures prints { OnOk result (prints_of prints.new ≡ prints_of prints.old ++ (name.now, number) ∷ []) }
     ensures err { OnErr result (map_of (task_of program.now.nodes) tasks.new ≡ map_of (task_of program.now.nodes) tasks.old) }
     ensures unprinted { OnErr result (prints.new ≡ prints.old) }
     ensures fits { TasksFit program.now tasks.new }
+    ensures ends { (test : EndTest) → TasksPass test tasks.old → TasksPass test tasks.new }
 {
     let copy = name.copy(alloc)?;
     prints.push(Put { name: copy, number })?;
@@ -102,6 +109,7 @@ pub(crate) fn move_on(program: &Program, tasks: &mut BTreeMap<Name, Task>, name:
     ensures moves { (t : Task) → looked_up (slice_cmp nat_cmp) tasks.old name.now ≡ Some t
         → map_of (task_of program.now.nodes) tasks.new ≡ insert (map_of (task_of program.now.nodes) tasks.old) name.now (record { place = at_node program.now.nodes node (place_of program.now.nodes t.frames.items); forks = t.forks }) }
     ensures fits { TasksFit program.now tasks.new }
+    ensures ends { (test : EndTest) → TasksPass test tasks.old → TasksPass test tasks.new }
 {
     if let Some(task) = tasks.get_mut(name) {
         task.go_on(program, node);
@@ -114,6 +122,7 @@ pub(crate) fn make_room(tasks: &mut BTreeMap<Name, Task>, name: &Name) -> Result
     ensures room { OnOk result (RoomAt tasks.new name.now) }
     ensures forks { ForksAt tasks.old name.now → ForksAt tasks.new name.now }
     ensures fits { (program : Parts) → TasksFit program tasks.old → TasksFit program tasks.new }
+    ensures ends { (test : EndTest) → TasksPass test tasks.old → TasksPass test tasks.new }
 {
     if let Some(task) = tasks.get_mut(name) {
         task.make_room(1)?;
@@ -135,6 +144,7 @@ pub(crate) fn accept(
     ensures moves { (t : Task) → looked_up (slice_cmp nat_cmp) tasks.old name.now ≡ Some t
         → map_of (task_of program.now.nodes) tasks.new ≡ insert (map_of (task_of program.now.nodes) tasks.old) name.now (record { place = place_with program.now.nodes bind.name (value_as bind.value) node (place_of program.now.nodes t.frames.items); forks = t.forks }) }
     ensures fits { TasksFit program.now tasks.new }
+    ensures ends { (test : EndTest) → ValuePasses test bind.value → TasksPass test tasks.old → TasksPass test tasks.new }
 {
     if let Some(task) = tasks.get_mut(name) {
         task.accept(program, bind, node);
@@ -156,6 +166,7 @@ pub(crate) fn branch(
     ensures moves { (t : Task) → looked_up (slice_cmp nat_cmp) tasks.old name.now ≡ Some t
         → map_of (task_of program.now.nodes) tasks.new ≡ insert (map_of (task_of program.now.nodes) tasks.old) name.now (record { place = place_with program.now.nodes end.name (value_as end.value) node (place_of program.now.nodes t.frames.items); forks = suc t.forks }) }
     ensures fits { TasksFit program.now tasks.new }
+    ensures ends { (test : EndTest) → ValuePasses test end.value → TasksPass test tasks.old → TasksPass test tasks.new }
 {
     if let Some(task) = tasks.get_mut(name) {
         task.branch(program, end, node);

@@ -8,6 +8,7 @@ ghost use Rattle.core_language.specs.Rounds.{event_entries, turn as turn_of, tur
 ghost use Rattle.core_programs.specs.Bodies.{program_of};
 ghost use Rattle.machine_rounds.specs.Sets.{has};
 ghost use Rattle.machine_rounds.specs.Showing.{ForksWithin};
+ghost use Rattle.chan_machine.specs.Ends.{IsOnOneThread};
 ghost use Rattle.chan_machine.specs.Fits.{Fits, ForksAt};
 ghost use Rattle.chan_machine.specs.Reading.{config_of, entry_of, event_of};
 ghost use Rattle.chan_machine.specs.Turning.{ParkedBut, SpreadsTo, event_in, run_as, shows_nothing};
@@ -82,6 +83,7 @@ fn turn(
     ensures forks { OnOk result ((n : ℕ) (rest : List NameOf) → has (slice_cmp nat_cmp) rest name ≡ false
         → ForksWithin n (config_of program.now run.old.config).tasks (name ∷ rest) → ForksWithin n (config_of program.now run.new.config).tasks rest) }
     ensures fits { Fits program.now run.new.config }
+    ensures cells { OnOk result (IsOnOneThread run.old.config → IsOnOneThread run.new.config) }
 {
     let stepped = step(alloc, program, &mut run.config, &name)?;
     let Some(event) = shown(stepped) else {
@@ -112,6 +114,7 @@ pub(crate) fn run_turns(
     ensures parked { OnOk result (ParkedBut program.now run.new [] queue.new) }
     ensures forks { OnOk result (ForksWithin before (config_of program.now run.new.config).tasks []) }
     ensures fits { OnOk result (Fits program.now run.new.config) }
+    ensures cells { OnOk result (IsOnOneThread run.old.config → IsOnOneThread run.new.config) }
 {
     'movers: for name in movers {
         turn(alloc, program, before + 1, run, queue, name)?;

@@ -1,6 +1,6 @@
 -- What `parse` owes, from what reading the program gives.
 use Rattle.std.proofs.Common.{◌≡◌, ◌≢◌, ℕ, ◌+◌, List, [], ◌∷◌, length, refl, sym, ◌∙◌, ap, subst, arith}
-use Rattle.chan_syntax.specs.declared.identifiers.Span.{Span}
+use Rattle.chan_base.specs.declared.spans.Span.{Span}
 use Rattle.chan_syntax.specs.declared.surface_tree.Surface.{Surface}
 use Rattle.text_tokens.specs.Text.{Token}
 use Rattle.chan_lexer.specs.declared.token.Token.{Token as Plain}

@@ -1,6 +1,6 @@
 -- What `parse` promises.
 use Rattle.std.specs.Prelude.{◌≡◌, ℕ, ◌+◌, List, [], ◌∷◌}
-use Rattle.chan_syntax.specs.declared.identifiers.Span.{Span}
+use Rattle.chan_base.specs.declared.spans.Span.{Span}
 use Rattle.text_tokens.specs.Text.{Token, span_behind}
 use Rattle.grammar_laws.specs.Laws.{IsUnexpected, IsTooDeep}
 use Rattle.surface_grammar.specs.Declarations.{program}

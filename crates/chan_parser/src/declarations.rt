@@ -1,21 +1,27 @@
 //! Programs and their declarations.
 
 ghost use Rattle.std.specs.Prelude.{◌≡◌, [], ◌∷◌};
+ghost use Rattle.chan_syntax.specs.declared.resources.Equation.TheVariants as e;
+ghost use Rattle.grammar_laws.specs.Grammar as g;
 ghost use Rattle.grammar_laws.specs.Grammar.{next_in};
 ghost use Rattle.surface_grammar.specs.Words.{code};
-ghost use Rattle.surface_grammar.specs.Grammar.{yes};
+ghost use Rattle.surface_grammar.specs.declared.words.Word.TheVariants as w;
+ghost use Rattle.surface_grammar.specs.Grammar.{ABlock, word, ◌▷◌, ◌◁◌, yes, more_arms_than_two};
 ghost use Rattle.surface_grammar.specs.Language.{At};
 ghost use Rattle.surface_grammar.specs.Declarations as spec;
-ghost use Rattle.operand_parser.specs.Syntax.{Answers};
+ghost use Rattle.surface_grammar.specs.Terms as terms;
+ghost use Rattle.token_cursor.specs.Syntax.{Answers, up_to_turns};
 
-use crate::blocks::block;
-use crate::parts::at_most;
-use chan_syntax::{Body, Decl, Decls, Equation, Params, Ref, Surface, SurfaceFunc, SurfaceProto};
-use operand_parser::{Cursor, Stop, bound, names, no_names, param, reference, res};
+use block_parser::{at_most, block};
+use chan_syntax::{
+    Block, Body, Decl, Decls, Equation, Params, Ref, Refs, Res, Surface, SurfaceFunc, SurfaceProto,
+};
+use operand_parser::{bound, names, no_names, param, reference, res};
 use sqlite_items::Items;
 use surface_grammar::{Named, Names, Word};
+use token_cursor::{Cursor, MORE_ARMS_THAN_TWO, Stop};
 
-#[tactic(auto, unfolding(surface_grammar::specs::Declarations::then_ref, operand_parser::specs::Syntax::sees, operand_parser::specs::Syntax::skip))]
+#[tactic(auto, unfolding(surface_grammar::specs::Declarations::then_ref, token_cursor::specs::Syntax::sees, token_cursor::specs::Syntax::skip))]
 fn then_ref(cursor: &mut Cursor<'_>, depth: usize) -> Result<Option<Ref>, Stop>
     ensures { Answers (At depth spec.then_ref cursor.old) result cursor.new }
 {
@@ -27,7 +33,7 @@ fn then_ref(cursor: &mut Cursor<'_>, depth: usize) -> Result<Option<Ref>, Stop>
     }
 }
 
-#[tactic(auto, unfolding(surface_grammar::specs::Declarations::two_refs, operand_parser::specs::Syntax::skip))]
+#[tactic(auto, unfolding(surface_grammar::specs::Declarations::two_refs, token_cursor::specs::Syntax::skip))]
 fn two_refs(cursor: &mut Cursor<'_>, depth: usize) -> Result<(Ref, Ref), Stop>
     ensures { Answers (At depth spec.two_refs cursor.old) result cursor.new }
 {
@@ -47,18 +53,30 @@ fn branch(cursor: &mut Cursor<'_>, depth: usize) -> Result<Equation, Stop>
     Ok(Equation::Branch(left, right, yes, no))
 }
 
-#[tactic(auto, unfolding(surface_grammar::specs::Declarations::equation, operand_parser::specs::Syntax::sees, operand_parser::specs::Syntax::skip))]
+fn sends(cursor: &mut Cursor<'_>, depth: usize) -> Result<Equation, Stop>
+    ensures { Answers (At depth (g.seq e.Send terms.res spec.then_ref) cursor.old) result cursor.new }
+{
+    let message = res(cursor, depth)?;
+    Ok(Equation::Send(message, then_ref(cursor, depth)?))
+}
+
+fn receives(cursor: &mut Cursor<'_>, depth: usize) -> Result<Equation, Stop>
+    ensures { Answers (At depth (g.seq e.Recv terms.res spec.then_ref) cursor.old) result cursor.new }
+{
+    let message = res(cursor, depth)?;
+    Ok(Equation::Recv(message, then_ref(cursor, depth)?))
+}
+
+#[tactic(auto, unfolding(surface_grammar::specs::Declarations::equation, token_cursor::specs::Syntax::sees, token_cursor::specs::Syntax::skip))]
 fn equation(cursor: &mut Cursor<'_>, depth: usize) -> Result<Equation, Stop>
     ensures { Answers (At depth spec.equation cursor.old) result cursor.new }
 {
     if cursor.sees(Word::Send) {
         cursor.skip(Word::Send)?;
-        let message = res(cursor, depth)?;
-        Ok(Equation::Send(message, then_ref(cursor, depth)?))
+        sends(cursor, depth)
     } else if cursor.sees(Word::Recv) {
         cursor.skip(Word::Recv)?;
-        let message = res(cursor, depth)?;
-        Ok(Equation::Recv(message, then_ref(cursor, depth)?))
+        receives(cursor, depth)
     } else if cursor.sees(Word::Close) {
         cursor.skip(Word::Close)?;
         Ok(Equation::Close)
@@ -71,18 +89,42 @@ fn equation(cursor: &mut Cursor<'_>, depth: usize) -> Result<Equation, Stop>
     }
 }
 
-#[tactic(auto, unfolding(surface_grammar::specs::Declarations::alternatives, operand_parser::specs::Syntax::skip))]
-fn alternatives(cursor: &mut Cursor<'_>, depth: usize) -> Result<(Ref, Ref), Stop>
-    ensures { Answers (At depth spec.alternatives cursor.old) result cursor.new }
+#[tactic(auto, unfolding(surface_grammar::specs::Declarations::next_ref, token_cursor::specs::Syntax::skip))]
+fn next_ref(cursor: &mut Cursor<'_>, depth: usize) -> Result<Ref, Stop>
+    ensures { Answers (At depth spec.next_ref cursor.old) result cursor.new }
 {
-    let left = reference(cursor, depth)?;
     cursor.skip(Word::Bar)?;
-    let right = reference(cursor, depth)?;
-    Ok((left, right))
+    reference(cursor, depth)
 }
 
-#[tactic(auto, unfolding(surface_grammar::specs::Declarations::choice, operand_parser::specs::Syntax::skip, operand_parser::specs::Syntax::name_at, surface_grammar::specs::Grammar::name))]
-fn choice(cursor: &mut Cursor<'_>, depth: usize) -> Result<(Named, (Ref, Ref)), Stop>
+/// The references of a choice, behind those that are found.
+#[tactic(auto, unfolding(token_cursor::specs::Syntax::sees))]
+fn more_refs(cursor: &mut Cursor<'_>, depth: usize, found: Refs) -> Result<Refs, Stop>
+    ensures { Answers (up_to_turns depth (w.Bar ∷ []) spec.next_ref more_arms_than_two found cursor.old) result cursor.new }
+{
+    let mut found = found;
+    for _turn in 0..MORE_ARMS_THAN_TWO {
+        if !cursor.sees(Word::Bar) {
+            return Ok(found);
+        }
+        let next = next_ref(cursor, depth)?;
+        found.push(next)?;
+    }
+    Ok(found)
+}
+
+#[tactic(auto, unfolding(surface_grammar::specs::Declarations::alternatives, surface_grammar::specs::Declarations::more_refs))]
+fn alternatives(cursor: &mut Cursor<'_>, depth: usize) -> Result<Refs, Stop>
+    ensures { Answers (At depth spec.alternatives cursor.old) result cursor.new }
+{
+    let mut found = Items::new(cursor.alloc());
+    found.push(reference(cursor, depth)?)?;
+    found.push(next_ref(cursor, depth)?)?;
+    more_refs(cursor, depth, found)
+}
+
+#[tactic(auto, unfolding(surface_grammar::specs::Declarations::choice, token_cursor::specs::Syntax::skip, token_cursor::specs::Syntax::name_at, surface_grammar::specs::Grammar::name))]
+fn choice(cursor: &mut Cursor<'_>, depth: usize) -> Result<(Named, Refs), Stop>
     ensures { Answers (At depth spec.choice cursor.old) result cursor.new }
 {
     let next = cursor.name()?;
@@ -91,20 +133,19 @@ fn choice(cursor: &mut Cursor<'_>, depth: usize) -> Result<(Named, (Ref, Ref)), 
     Ok((next, alternatives))
 }
 
-fn choice_of(offer: bool, choice: (Named, (Ref, Ref))) -> Body
+fn choice_of(offer: bool, choice: (Named, Refs)) -> Body
     ensures { result ≡ spec.choice_of offer choice }
 {
-    let (next, (left, right)) = choice;
+    let (next, refs) = choice;
     Body::Choice {
         offer,
         next: next.name,
         next_span: next.span,
-        left,
-        right,
+        refs,
     }
 }
 
-#[tactic(auto, unfolding(surface_grammar::specs::Declarations::pbody, operand_parser::specs::Syntax::sees, operand_parser::specs::Syntax::skip))]
+#[tactic(auto, unfolding(surface_grammar::specs::Declarations::pbody, token_cursor::specs::Syntax::sees, token_cursor::specs::Syntax::skip))]
 fn pbody(cursor: &mut Cursor<'_>, depth: usize) -> Result<Body, Stop>
     ensures { Answers (At depth spec.pbody cursor.old) result cursor.new }
 {
@@ -119,7 +160,7 @@ fn pbody(cursor: &mut Cursor<'_>, depth: usize) -> Result<Body, Stop>
     }
 }
 
-#[tactic(auto, unfolding(surface_grammar::specs::Declarations::names_to_paren, operand_parser::specs::Syntax::sees, operand_parser::specs::Syntax::skip))]
+#[tactic(auto, unfolding(surface_grammar::specs::Declarations::names_to_paren, token_cursor::specs::Syntax::sees, token_cursor::specs::Syntax::skip))]
 fn names_to_paren(cursor: &mut Cursor<'_>, depth: usize) -> Result<Names, Stop>
     ensures { Answers (At depth spec.names_to_paren cursor.old) result cursor.new }
 {
@@ -132,7 +173,7 @@ fn names_to_paren(cursor: &mut Cursor<'_>, depth: usize) -> Result<Names, Stop>
     Ok(names)
 }
 
-#[tactic(auto, using(operand_parser::proofs::Opens::opens_paren), unfolding(surface_grammar::specs::Declarations::proto_params))]
+#[tactic(auto, using(token_cursor::proofs::Opens::opens_paren), unfolding(surface_grammar::specs::Declarations::proto_params))]
 fn proto_params(cursor: &mut Cursor<'_>, depth: usize) -> Result<Names, Stop>
     ensures { Answers (At depth spec.proto_params cursor.old) result cursor.new }
 {
@@ -140,7 +181,17 @@ fn proto_params(cursor: &mut Cursor<'_>, depth: usize) -> Result<Names, Stop>
     names_to_paren(cursor, inner)
 }
 
-#[tactic(auto, unfolding(surface_grammar::specs::Declarations::proto, operand_parser::specs::Syntax::skip, operand_parser::specs::Syntax::name_at, surface_grammar::specs::Grammar::name))]
+#[tactic(auto, unfolding(token_cursor::specs::Syntax::skip))]
+fn proto_body(cursor: &mut Cursor<'_>, depth: usize) -> Result<Body, Stop>
+    ensures { Answers (At depth (word w.Equals ▷ (spec.pbody ◁ word w.Semicolon)) cursor.old) result cursor.new }
+{
+    cursor.skip(Word::Equals)?;
+    let body = pbody(cursor, depth)?;
+    cursor.skip(Word::Semicolon)?;
+    Ok(body)
+}
+
+#[tactic(auto, unfolding(surface_grammar::specs::Declarations::proto, token_cursor::specs::Syntax::skip, token_cursor::specs::Syntax::name_at, surface_grammar::specs::Grammar::name))]
 fn proto(cursor: &mut Cursor<'_>, depth: usize) -> Result<SurfaceProto, Stop>
     ensures { Answers (At depth spec.proto cursor.old) result cursor.new }
 {
@@ -148,9 +199,7 @@ fn proto(cursor: &mut Cursor<'_>, depth: usize) -> Result<SurfaceProto, Stop>
     cursor.skip(Word::Proto)?;
     let named = cursor.name()?;
     let params = proto_params(cursor, depth)?;
-    cursor.skip(Word::Equals)?;
-    let body = pbody(cursor, depth)?;
-    cursor.skip(Word::Semicolon)?;
+    let body = proto_body(cursor, depth)?;
     Ok(SurfaceProto {
         name: named.name,
         name_span: named.span,
@@ -161,7 +210,7 @@ fn proto(cursor: &mut Cursor<'_>, depth: usize) -> Result<SurfaceProto, Stop>
     })
 }
 
-#[tactic(auto, unfolding(surface_grammar::specs::Declarations::params, operand_parser::specs::Syntax::sees, operand_parser::specs::Syntax::skip))]
+#[tactic(auto, unfolding(surface_grammar::specs::Declarations::params, token_cursor::specs::Syntax::sees, token_cursor::specs::Syntax::skip))]
 fn params(cursor: &mut Cursor<'_>, depth: usize) -> Result<Params, Stop>
     ensures { Answers (At depth spec.params cursor.old) result cursor.new }
 {
@@ -177,7 +226,7 @@ fn params(cursor: &mut Cursor<'_>, depth: usize) -> Result<Params, Stop>
     Ok(found)
 }
 
-#[tactic(auto, using(operand_parser::proofs::Opens::opens_paren), unfolding(surface_grammar::specs::Declarations::func_params, operand_parser::specs::Syntax::sees, operand_parser::specs::Syntax::skip))]
+#[tactic(auto, using(token_cursor::proofs::Opens::opens_paren), unfolding(surface_grammar::specs::Declarations::func_params, token_cursor::specs::Syntax::sees, token_cursor::specs::Syntax::skip))]
 fn func_params(cursor: &mut Cursor<'_>, depth: usize) -> Result<Params, Stop>
     ensures { Answers (At depth spec.func_params cursor.old) result cursor.new }
 {
@@ -191,7 +240,18 @@ fn func_params(cursor: &mut Cursor<'_>, depth: usize) -> Result<Params, Stop>
     Ok(params)
 }
 
-#[tactic(auto, using(operand_parser::proofs::Opens::block_is), unfolding(surface_grammar::specs::Declarations::func, operand_parser::specs::Syntax::skip, operand_parser::specs::Syntax::name_at, surface_grammar::specs::Grammar::name))]
+/// What follows the parameters of a function.
+#[tactic(auto, using(token_cursor::proofs::Opens::block_is), unfolding(token_cursor::specs::Syntax::skip))]
+fn result_and_block(cursor: &mut Cursor<'_>, depth: usize) -> Result<(Res, Block), Stop>
+    ensures { Answers (At depth (g.seq (λ r x. (r, x)) (word w.Arrow ▷ terms.res) (g.call ABlock (λ x. x))) cursor.old) result cursor.new }
+{
+    cursor.skip(Word::Arrow)?;
+    let result = res(cursor, depth)?;
+    let block = block(cursor, depth)?;
+    Ok((result, block))
+}
+
+#[tactic(auto, unfolding(surface_grammar::specs::Declarations::func, token_cursor::specs::Syntax::skip, token_cursor::specs::Syntax::name_at, surface_grammar::specs::Grammar::name))]
 fn func(cursor: &mut Cursor<'_>, depth: usize) -> Result<SurfaceFunc, Stop>
     ensures { Answers (At depth spec.func cursor.old) result cursor.new }
 {
@@ -200,9 +260,7 @@ fn func(cursor: &mut Cursor<'_>, depth: usize) -> Result<SurfaceFunc, Stop>
     let named = cursor.name()?;
     let bound = bound(cursor, depth)?;
     let params = func_params(cursor, depth)?;
-    cursor.skip(Word::Arrow)?;
-    let result = res(cursor, depth)?;
-    let block = block(cursor, depth)?;
+    let (result, block) = result_and_block(cursor, depth)?;
     Ok(SurfaceFunc {
         name: named.name,
         name_span: named.span,
@@ -214,7 +272,7 @@ fn func(cursor: &mut Cursor<'_>, depth: usize) -> Result<SurfaceFunc, Stop>
     })
 }
 
-#[tactic(auto, unfolding(surface_grammar::specs::Declarations::decl, operand_parser::specs::Syntax::sees))]
+#[tactic(auto, unfolding(surface_grammar::specs::Declarations::decl, token_cursor::specs::Syntax::sees))]
 fn decl(cursor: &mut Cursor<'_>, depth: usize) -> Result<Decl, Stop>
     ensures { Answers (At depth spec.decl cursor.old) result cursor.new }
 {
@@ -231,7 +289,7 @@ fn sees_decl(cursor: &Cursor<'_>) -> bool
     cursor.sees_any(&[Word::Proto, Word::Fn])
 }
 
-#[tactic(auto, using(operand_parser::proofs::Turns::one_more, operand_parser::proofs::Turns::no_more), unfolding(surface_grammar::specs::Declarations::decls))]
+#[tactic(auto, using(token_cursor::proofs::Turns::one_more, token_cursor::proofs::Turns::no_more), unfolding(surface_grammar::specs::Declarations::decls))]
 fn decls(cursor: &mut Cursor<'_>, depth: usize) -> Result<Decls, Stop>
     ensures { Answers (At depth spec.decls cursor.old) result cursor.new }
 {

@@ -1,5 +1,5 @@
 //! Why a text is not in the grammar.
-use chan_syntax::Span;
+use chan_base::Span;
 
 #[derive(Clone, Copy, Debug)]
 pub enum ParseFault {

@@ -10,10 +10,11 @@ ghost use Rattle.chan_parser.specs.Parse.{Fault, IsFaultOf, IsFirstFault, IsMemo
 
 use crate::declarations::program;
 use crate::parse_fault::ParseFault;
+use chan_base::Span;
 use chan_lexer::Tokens;
-use chan_syntax::{Span, Surface};
-use operand_parser::{Cursor, Stop};
+use chan_syntax::Surface;
 use std::alloc::Global;
+use token_cursor::{Cursor, Stop};
 
 /// How many levels of nesting a text may have.
 const MAX_LEVELS: usize = 200;

@@ -1,33 +1,23 @@
 //! Statements, blocks and how they end.
 #![tactic(auto, using(surface_spelling::proofs::Bytes::byte_rules, surface_spelling::proofs::SpelledBlocks::block_is, surface_spelling::proofs::SpelledBlocks::statements, surface_spelling::proofs::SpelledBlocks::lasts, std::proofs::lemmas::Grind::common_steps), unfolding(surface_spelling::specs::Blocks::stmts))]
 
-ghost use Rattle.std.specs.Prelude.{◌≡◌, ◌+◌, ◌++◌, IfOk, OnOk};
-ghost use Rattle.surface_spelling.specs.Layout.{bytes, closing, step};
+ghost use Rattle.std.specs.Prelude.{◌≡◌, ◌++◌, OnOk};
+ghost use Rattle.surface_spelling.specs.Layout.{bytes, closing};
 ghost use Rattle.surface_spelling.specs.Blocks as spec;
+ghost use Rattle.chan_printer.specs.Groups.{group_of_last, session};
 
 use crate::heads::{
     put_arm_head, put_branch_head, put_condition, put_let_fork, put_loop_head, put_match_head,
     put_task_head,
 };
-use crate::operands::{put_proof, put_values};
-use crate::plain::{put_computation, put_end};
-use crate::words::{put, put_line};
+use crate::plain::{put_computation, put_end, put_exchange, put_message, put_signal, put_started};
 use chan_base::Memory;
-use chan_syntax::{Block, Last, Pat, Stmt};
+use chan_syntax::{Block, Last, Stmt, SurfaceArm};
+use operand_printer::{deeper, put, put_line, put_proof, put_values};
 use std::alloc::Global;
 
-/// How much deeper the lines of a block stand.
-const STEP: usize = 4;
-
-/// What stands between the two blocks of an `if` or a `branch`.
+/// What stands between the blocks of an `if` or a `branch`.
 const ELSE: &[u8] = b" else ";
-
-/// No depth that memory can hold comes near the limit of `usize`.
-fn deeper(depth: usize) -> Result<usize, Memory>
-    ensures { IfOk result (λ inner. inner ≡ depth + step) }
-{
-    depth.checked_add(STEP).ok_or(Memory)
-}
 
 /// The end of a block.
 fn put_closing(text: &mut Vec<u8>, depth: usize) -> Result<(), Memory>
@@ -67,7 +57,6 @@ fn put_stmts(alloc: Global, text: &mut Vec<u8>, stmts: &[Stmt], depth: usize) ->
     Ok(())
 }
 
-/// A statement with a block; the others are handed on.
 #[cycle(blocks)]
 fn put_stmt(alloc: Global, text: &mut Vec<u8>, stmt: &Stmt, depth: usize) -> Result<(), Memory>
     ensures { OnOk result (text.new.items ≡ text.old.items ++ bytes (spec.stmt depth stmt.now)) }
@@ -89,27 +78,60 @@ fn put_stmt(alloc: Global, text: &mut Vec<u8>, stmt: &Stmt, depth: usize) -> Res
             put_task_head(alloc, text, func, bound, param, starts.as_slice(), proof)?;
             put_block(alloc, text, block, depth)
         }
-        _ => put_computation(alloc, text, stmt),
+        Stmt::Let { .. } | Stmt::Mul { .. } | Stmt::Div { .. } | Stmt::Rem { .. } => {
+            put_computation(alloc, text, stmt)
+        }
+        Stmt::Call { .. } | Stmt::Fork { .. } | Stmt::Print { .. } => {
+            put_started(alloc, text, stmt)
+        }
+        Stmt::Send1 { .. } | Stmt::Recv1 { .. } | Stmt::Split { .. } => {
+            put_exchange(alloc, text, stmt)
+        }
+        Stmt::Send { .. } | Stmt::Recv { .. } => put_message(alloc, text, stmt),
+        Stmt::Close { .. } | Stmt::Wait { .. } | Stmt::Choose { .. } => {
+            put_signal(alloc, text, stmt)
+        }
     }
 }
 
-/// One arm of a match, on lines of its own.
+/// The arms of a match, each on lines of its own.
 #[cycle(blocks)]
-fn put_arm(
+#[tactic(auto, using(surface_spelling::proofs::Bytes::byte_rules, std::proofs::lemmas::Grind::common_steps), unfolding(surface_spelling::specs::Blocks::arms))]
+fn put_arms(
     alloc: Global,
     text: &mut Vec<u8>,
-    side: &[u8],
-    pat: &Pat,
-    block: &Block,
+    arms: &[SurfaceArm],
     depth: usize,
 ) -> Result<(), Memory>
-    ensures { OnOk result (text.new.items ≡ text.old.items ++ (bytes (spec.arm_head depth side.now pat.now) ++ bytes (spec.block depth block.now))) }
+    ensures { OnOk result (text.new.items ≡ text.old.items ++ bytes (spec.arms depth 0 arms.now)) }
 {
-    put_arm_head(alloc, text, side, pat, depth)?;
-    put_block(alloc, text, block, depth)
+    for (number, arm) in arms.iter().enumerate() {
+        put_arm_head(alloc, text, number as u64, &arm.pat, depth)?;
+        put_block(alloc, text, &arm.block, depth)?;
+    }
+    Ok(())
 }
 
-/// An If or a Match; the others are handed on.
+/// Blocks with `else` between them.
+#[cycle(blocks)]
+#[tactic(auto, using(surface_spelling::proofs::Bytes::byte_rules, std::proofs::lemmas::Grind::common_steps), unfolding(surface_spelling::specs::Blocks::behind_else, surface_spelling::specs::Blocks::blocks))]
+fn put_blocks(
+    alloc: Global,
+    text: &mut Vec<u8>,
+    blocks: &[Block],
+    depth: usize,
+) -> Result<(), Memory>
+    ensures { OnOk result (text.new.items ≡ text.old.items ++ bytes (spec.blocks depth blocks.now)) }
+{
+    let mut behind = false;
+    for block in blocks {
+        put(text, if behind { ELSE } else { b"" })?;
+        put_block(alloc, text, block, depth)?;
+        behind = true;
+    }
+    Ok(())
+}
+
 #[cycle(blocks)]
 fn put_last(alloc: Global, text: &mut Vec<u8>, last: &Last, depth: usize) -> Result<(), Memory>
     ensures { OnOk result (text.new.items ≡ text.old.items ++ bytes (spec.last depth last.now)) }
@@ -127,25 +149,20 @@ fn put_last(alloc: Global, text: &mut Vec<u8>, last: &Last, depth: usize) -> Res
             put(text, ELSE)?;
             put_block(alloc, text, no, depth)
         }
-        Last::Match {
-            name,
-            left,
-            yes,
-            right,
-            no,
-            ..
-        } => {
+        Last::Match { name, arms, .. } => {
             let inner = deeper(depth)?;
             put_match_head(text, name)?;
-            put_arm(alloc, text, b"inl", left, yes, inner)?;
-            put_arm(alloc, text, b"inr", right, no, inner)?;
+            put_arms(alloc, text, arms.as_slice(), inner)?;
             put_closing(text, depth)
         }
-        _ => put_session_last(alloc, text, last, depth),
+        Last::Branch { .. } | Last::Loop { .. } | Last::Again { .. } => {
+            put_session_last(alloc, text, last, depth)
+        }
+        Last::Ret { .. } | Last::Tail { .. } | Last::Absurd { .. } => put_end(alloc, text, last),
     }
 }
 
-/// A Branch, Loop or Again; the others are handed on.
+/// A Branch, Loop or Again.
 #[cycle(blocks)]
 fn put_session_last(
     alloc: Global,
@@ -153,6 +170,7 @@ fn put_session_last(
     last: &Last,
     depth: usize,
 ) -> Result<(), Memory>
+    requires form { group_of_last last.now ≡ session }
     ensures { OnOk result (text.new.items ≡ text.old.items ++ bytes (spec.last depth last.now)) }
 {
     match last {
@@ -162,14 +180,11 @@ fn put_session_last(
             proof,
             bit,
             rest,
-            yes,
-            no,
+            blocks,
             ..
         } => {
             put_branch_head(alloc, text, channel, path.as_slice(), proof, bit, rest)?;
-            put_block(alloc, text, yes, depth)?;
-            put(text, ELSE)?;
-            put_block(alloc, text, no, depth)
+            put_blocks(alloc, text, blocks.as_slice(), depth)
         }
         Last::Loop {
             name,
@@ -189,6 +204,6 @@ fn put_session_last(
             put_values(alloc, text, values.as_slice())?;
             put_proof(alloc, text, proof)
         }
-        _ => put_end(alloc, text, last),
+        _ => unreachable!(),
     }
 }

@@ -1,5 +1,5 @@
 //! Protocols and functions.
-#![tactic(auto, using(surface_spelling::proofs::Bytes::byte_rules, std::proofs::lemmas::Grind::common_steps), unfolding(surface_spelling::specs::Spelling::then_ref, surface_spelling::specs::Spelling::two_refs, surface_spelling::specs::Spelling::alternatives, surface_spelling::specs::Spelling::plain, surface_spelling::specs::Spelling::pbody, surface_spelling::specs::Spelling::proto_head, surface_spelling::specs::Spelling::proto, surface_spelling::specs::Spelling::func_head, surface_spelling::specs::Spelling::func, surface_spelling::specs::Spelling::declaration, surface_spelling::specs::Spelling::declarations))]
+#![tactic(auto, using(surface_spelling::proofs::Bytes::byte_rules, std::proofs::lemmas::Grind::common_steps), unfolding(surface_spelling::specs::Spelling::then_ref, surface_spelling::specs::Spelling::two_refs, surface_spelling::specs::Spelling::refs_behind, surface_spelling::specs::Spelling::alternatives, surface_spelling::specs::Spelling::plain, surface_spelling::specs::Spelling::pbody, surface_spelling::specs::Spelling::proto_head, surface_spelling::specs::Spelling::proto, surface_spelling::specs::Spelling::func_head, surface_spelling::specs::Spelling::func, surface_spelling::specs::Spelling::declaration, surface_spelling::specs::Spelling::declarations))]
 
 ghost use Rattle.std.specs.Prelude.{◌≡◌, ◌++◌, OnOk};
 ghost use Rattle.surface_spelling.specs.Layout.{bytes};
@@ -7,10 +7,9 @@ ghost use Rattle.surface_spelling.specs.Spelling as spec;
 
 use crate::blocks::put_block;
 use crate::heads::{put_condition, put_header, put_result_behind};
-use crate::resources::{put_reference, put_res};
-use crate::words::{put, put_in_parens, put_line};
 use chan_base::Memory;
 use chan_syntax::{Body, Bound, Decl, Equation, Ident, Param, Ref, Res, SurfaceFunc, SurfaceProto};
+use operand_printer::{put, put_in_parens, put_line, put_reference, put_res};
 use std::alloc::Global;
 
 fn put_then_ref(alloc: Global, text: &mut Vec<u8>, next: &Option<Ref>) -> Result<(), Memory>
@@ -32,17 +31,24 @@ fn put_two_refs(alloc: Global, text: &mut Vec<u8>, this: &Ref, other: &Ref) -> R
     put_reference(alloc, text, other)
 }
 
-fn put_alternatives(
-    alloc: Global,
-    text: &mut Vec<u8>,
-    left: &Ref,
-    right: &Ref,
-) -> Result<(), Memory>
-    ensures { OnOk result (text.new.items ≡ text.old.items ++ bytes (spec.alternatives left.now right.now)) }
+fn put_refs_behind(alloc: Global, text: &mut Vec<u8>, refs: &[Ref]) -> Result<(), Memory>
+    ensures { OnOk result (text.new.items ≡ text.old.items ++ bytes (spec.refs_behind refs.now)) }
 {
-    put_reference(alloc, text, left)?;
-    put(text, b" | ")?;
-    put_reference(alloc, text, right)
+    for reference in refs {
+        put(text, b" | ")?;
+        put_reference(alloc, text, reference)?;
+    }
+    Ok(())
+}
+
+fn put_alternatives(alloc: Global, text: &mut Vec<u8>, refs: &[Ref]) -> Result<(), Memory>
+    ensures { OnOk result (text.new.items ≡ text.old.items ++ bytes (spec.alternatives refs.now)) }
+{
+    if let Some((first, more)) = refs.split_first() {
+        put_reference(alloc, text, first)?;
+        put_refs_behind(alloc, text, more)?;
+    }
+    Ok(())
 }
 
 fn put_equation(alloc: Global, text: &mut Vec<u8>, equation: &Equation) -> Result<(), Memory>
@@ -76,14 +82,13 @@ fn put_body(alloc: Global, text: &mut Vec<u8>, body: &Body) -> Result<(), Memory
         Body::Choice {
             offer,
             next,
-            left,
-            right,
+            refs,
             ..
         } => {
             put(text, if *offer { b"offer " } else { b"choice " })?;
             put(text, next.as_slice())?;
             put(text, b" of ")?;
-            put_alternatives(alloc, text, left, right)
+            put_alternatives(alloc, text, refs.as_slice())
         }
     }
 }

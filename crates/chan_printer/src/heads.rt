@@ -1,5 +1,5 @@
 //! The lines of statements, without blocks.
-#![tactic(auto, using(surface_spelling::proofs::Bytes::byte_rules, std::proofs::lemmas::Grind::common_steps), unfolding(surface_spelling::specs::Blocks::start, surface_spelling::specs::Blocks::let_is, surface_spelling::specs::Blocks::call, surface_spelling::specs::Blocks::access, surface_spelling::specs::Blocks::target, surface_spelling::specs::Blocks::task_head, surface_spelling::specs::Blocks::loop_head, surface_spelling::specs::Blocks::let_fork, surface_spelling::specs::Blocks::sent, surface_spelling::specs::Blocks::condition, surface_spelling::specs::Blocks::match_head, surface_spelling::specs::Blocks::as_names, surface_spelling::specs::Blocks::at_most, surface_spelling::specs::Blocks::name_and_binds, surface_spelling::specs::Blocks::header, surface_spelling::specs::Blocks::result_behind, surface_spelling::specs::Blocks::branch_head))]
+#![tactic(auto, using(surface_spelling::proofs::Bytes::byte_rules, std::proofs::lemmas::Grind::common_steps), unfolding(surface_spelling::specs::Blocks::let_is, surface_spelling::specs::Blocks::call, surface_spelling::specs::Blocks::access, surface_spelling::specs::Blocks::target, surface_spelling::specs::Blocks::task_head, surface_spelling::specs::Blocks::loop_head, surface_spelling::specs::Blocks::let_fork, surface_spelling::specs::Blocks::sent, surface_spelling::specs::Blocks::condition, surface_spelling::specs::Blocks::match_head, surface_spelling::specs::Blocks::as_names, surface_spelling::specs::Blocks::at_most, surface_spelling::specs::Blocks::name_and_binds, surface_spelling::specs::Blocks::header, surface_spelling::specs::Blocks::result_behind, surface_spelling::specs::Blocks::branch_head))]
 
 ghost use Rattle.std.specs.Prelude.{◌≡◌, [], ◌∷◌, ◌++◌, OnOk};
 ghost use Rattle.surface_spelling.specs.Layout.{bytes, line, name as name_word, pair, in_parens, listed, behind_commas};
@@ -7,14 +7,13 @@ ghost use Rattle.surface_spelling.specs.Layout.{number as number_word};
 ghost use Rattle.surface_spelling.specs.Operands as operand;
 ghost use Rattle.surface_spelling.specs.Blocks as spec;
 
-use crate::operands::{
-    put_names_behind, put_pat, put_path, put_proof, put_two_pats, put_value, put_values,
-};
-use crate::resources::{put_reference, put_res, put_shape};
-use crate::terms::put_binds_behind;
-use crate::words::{Spell, put, put_behind_commas, put_in_parens, put_line, put_number};
 use chan_base::Memory;
 use chan_syntax::{Bound, Ident, Letter, Param, Pat, Proof, Ref, Res, Start, Supply, Term};
+use operand_printer::{
+    Spell, put, put_behind_commas, put_binds_behind, put_in_parens, put_line, put_names_behind,
+    put_number, put_pat, put_path, put_proof, put_reference, put_res, put_tag, put_two_pats,
+    put_value, put_values,
+};
 use std::alloc::Global;
 
 /// What a name is bound to stands behind this.
@@ -111,6 +110,21 @@ pub fn put_access(
     put_proof(alloc, text, proof)
 }
 
+/// The arm that a choice goes into.
+#[tactic(auto, using(surface_spelling::proofs::Bytes::byte_rules, std::proofs::lemmas::Grind::common_steps), unfolding(surface_spelling::specs::Blocks::chosen))]
+pub fn put_chosen(alloc: Global, text: &mut Vec<u8>, number: u64) -> Result<(), Memory>
+    ensures { OnOk result (text.new.items ≡ text.old.items ++ bytes (spec.chosen number)) }
+{
+    if number == 0 {
+        put(text, b"left")
+    } else if number == 1 {
+        put(text, b"right")
+    } else {
+        put(text, b"#")?;
+        put_number(alloc, text, number)
+    }
+}
+
 /// A channel, its reference, and the path along it.
 pub fn put_target(
     alloc: Global,
@@ -125,20 +139,6 @@ pub fn put_target(
     put(text, b": ")?;
     put_reference(alloc, text, proto)?;
     put_path(text, path)
-}
-
-impl Spell for Start {
-    ghost pieces = { spec.start };
-
-    fn spell(&self, alloc: Global, text: &mut Vec<u8>) -> Result<(), Memory>
-        ensures { OnOk result (text.new.items ≡ text.old.items ++ bytes (spec.start self.now)) }
-    {
-        put(text, self.name.as_slice())?;
-        put(text, b": ")?;
-        put_shape(alloc, text, &self.shape)?;
-        put(text, b" = ")?;
-        put_value(alloc, text, &self.value)
-    }
 }
 
 fn put_name_and_binds(
@@ -299,11 +299,11 @@ pub fn put_match_head(text: &mut Vec<u8>, name: &Ident) -> Result<(), Memory>
     put(text, b" {")
 }
 
-fn put_side(text: &mut Vec<u8>, side: &[u8], depth: usize) -> Result<(), Memory>
-    ensures { OnOk result (text.new.items ≡ text.old.items ++ (bytes (line depth) ++ (side.now ++ 32 ∷ []))) }
+fn put_arm_tag(alloc: Global, text: &mut Vec<u8>, number: u64, depth: usize) -> Result<(), Memory>
+    ensures { OnOk result (text.new.items ≡ text.old.items ++ (bytes (line depth) ++ (bytes (operand.tag number) ++ 32 ∷ []))) }
 {
     put_line(text, depth)?;
-    put(text, side)?;
+    put_tag(alloc, text, number)?;
     put(text, b" ")
 }
 
@@ -312,13 +312,13 @@ fn put_side(text: &mut Vec<u8>, side: &[u8], depth: usize) -> Result<(), Memory>
 pub fn put_arm_head(
     alloc: Global,
     text: &mut Vec<u8>,
-    side: &[u8],
+    number: u64,
     pat: &Pat,
     depth: usize,
 ) -> Result<(), Memory>
-    ensures { OnOk result (text.new.items ≡ text.old.items ++ bytes (spec.arm_head depth side.now pat.now)) }
+    ensures { OnOk result (text.new.items ≡ text.old.items ++ bytes (spec.arm_head depth number pat.now)) }
 {
-    put_side(text, side, depth)?;
+    put_arm_tag(alloc, text, number, depth)?;
     put_pat(alloc, text, pat)?;
     put(text, b" ")
 }

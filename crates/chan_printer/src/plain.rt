@@ -1,23 +1,23 @@
-//! Statements and lasts that hold no block. Each function writes the forms that its comment names, and hands the
-//! others on; forms with a block don't come here.
+//! Statements and lasts that hold no block, a function for each group of forms.
 #![tactic(auto, using(surface_spelling::proofs::Bytes::byte_rules, surface_spelling::proofs::SpelledBlocks::statements, surface_spelling::proofs::SpelledBlocks::lasts, std::proofs::lemmas::Grind::common_steps))]
 
 ghost use Rattle.std.specs.Prelude.{◌≡◌, ◌++◌, ℕ, OnOk};
 ghost use Rattle.surface_spelling.specs.Layout.{bytes};
 ghost use Rattle.surface_spelling.specs.Blocks as spec;
+ghost use Rattle.chan_printer.specs.Groups.{group, group_of_last, computation, start, exchange, message, signal, end};
 
 use crate::heads::{
-    put_access, put_call, put_let_fork, put_let_name, put_let_pair, put_let_pat, put_let_two_pats,
-    put_sent, put_target, put_term_and_number, put_two_terms,
+    put_access, put_call, put_chosen, put_let_fork, put_let_name, put_let_pair, put_let_pat,
+    put_let_two_pats, put_sent, put_target, put_term_and_number, put_two_terms,
 };
-use crate::operands::{put_path, put_proof};
-use crate::words::{Spell, put};
 use chan_base::Memory;
 use chan_syntax::{Last, Stmt};
+use operand_printer::{Spell, put, put_path, put_proof};
 use std::alloc::Global;
 
 /// A Let, Mul, Div or Rem.
 pub fn put_computation(alloc: Global, text: &mut Vec<u8>, stmt: &Stmt) -> Result<(), Memory>
+    requires form { group stmt.now ≡ computation }
     ensures { (depth : ℕ) → OnOk result (text.new.items ≡ text.old.items ++ bytes (spec.stmt depth stmt.now)) }
 {
     match stmt {
@@ -55,12 +55,13 @@ pub fn put_computation(alloc: Global, text: &mut Vec<u8>, stmt: &Stmt) -> Result
             put(text, b"rem")?;
             put_term_and_number(alloc, text, term, *divisor)
         }
-        _ => put_started(alloc, text, stmt),
+        _ => unreachable!(),
     }
 }
 
 /// A Call, Fork or Print.
-fn put_started(alloc: Global, text: &mut Vec<u8>, stmt: &Stmt) -> Result<(), Memory>
+pub fn put_started(alloc: Global, text: &mut Vec<u8>, stmt: &Stmt) -> Result<(), Memory>
+    requires form { group stmt.now ≡ start }
     ensures { (depth : ℕ) → OnOk result (text.new.items ≡ text.old.items ++ bytes (spec.stmt depth stmt.now)) }
 {
     match stmt {
@@ -89,12 +90,13 @@ fn put_started(alloc: Global, text: &mut Vec<u8>, stmt: &Stmt) -> Result<(), Mem
             put(text, b"print ")?;
             term.spell(alloc, text)
         }
-        _ => put_exchange(alloc, text, stmt),
+        _ => unreachable!(),
     }
 }
 
 /// A Send1, Recv1 or Split.
-fn put_exchange(alloc: Global, text: &mut Vec<u8>, stmt: &Stmt) -> Result<(), Memory>
+pub fn put_exchange(alloc: Global, text: &mut Vec<u8>, stmt: &Stmt) -> Result<(), Memory>
+    requires form { group stmt.now ≡ exchange }
     ensures { (depth : ℕ) → OnOk result (text.new.items ≡ text.old.items ++ bytes (spec.stmt depth stmt.now)) }
 {
     match stmt {
@@ -130,12 +132,13 @@ fn put_exchange(alloc: Global, text: &mut Vec<u8>, stmt: &Stmt) -> Result<(), Me
             put_let_two_pats(alloc, text, first, second)?;
             put(text, name.as_slice())
         }
-        _ => put_message(alloc, text, stmt),
+        _ => unreachable!(),
     }
 }
 
 /// A Send or Recv.
-fn put_message(alloc: Global, text: &mut Vec<u8>, stmt: &Stmt) -> Result<(), Memory>
+pub fn put_message(alloc: Global, text: &mut Vec<u8>, stmt: &Stmt) -> Result<(), Memory>
+    requires form { group stmt.now ≡ message }
     ensures { (depth : ℕ) → OnOk result (text.new.items ≡ text.old.items ++ bytes (spec.stmt depth stmt.now)) }
 {
     match stmt {
@@ -166,12 +169,13 @@ fn put_message(alloc: Global, text: &mut Vec<u8>, stmt: &Stmt) -> Result<(), Mem
             put(text, b"recv ")?;
             put_access(alloc, text, channel, path.as_slice(), proof)
         }
-        _ => put_signal(alloc, text, stmt),
+        _ => unreachable!(),
     }
 }
 
 /// A Close, Wait or Choose.
-fn put_signal(alloc: Global, text: &mut Vec<u8>, stmt: &Stmt) -> Result<(), Memory>
+pub fn put_signal(alloc: Global, text: &mut Vec<u8>, stmt: &Stmt) -> Result<(), Memory>
+    requires form { group stmt.now ≡ signal }
     ensures { (depth : ℕ) → OnOk result (text.new.items ≡ text.old.items ++ bytes (spec.stmt depth stmt.now)) }
 {
     match stmt {
@@ -194,7 +198,7 @@ fn put_signal(alloc: Global, text: &mut Vec<u8>, stmt: &Stmt) -> Result<(), Memo
             put_access(alloc, text, channel, path.as_slice(), proof)
         }
         Stmt::Choose {
-            right,
+            arm,
             name,
             channel,
             proto,
@@ -203,16 +207,18 @@ fn put_signal(alloc: Global, text: &mut Vec<u8>, stmt: &Stmt) -> Result<(), Memo
             ..
         } => {
             put_let_name(text, name)?;
-            put(text, if *right { b"right " } else { b"left " })?;
+            put_chosen(alloc, text, u64::from(*arm))?;
+            put(text, b" ")?;
             put_target(alloc, text, channel, proto, path.as_slice())?;
             put_proof(alloc, text, proof)
         }
-        _ => Err(Memory),
+        _ => unreachable!(),
     }
 }
 
 /// A Ret, Tail or Absurd.
 pub fn put_end(alloc: Global, text: &mut Vec<u8>, last: &Last) -> Result<(), Memory>
+    requires form { group_of_last last.now ≡ end }
     ensures { (depth : ℕ) → OnOk result (text.new.items ≡ text.old.items ++ bytes (spec.last depth last.now)) }
 {
     match last {
@@ -230,6 +236,6 @@ pub fn put_end(alloc: Global, text: &mut Vec<u8>, last: &Last) -> Result<(), Mem
             put(text, b"absurd")?;
             put_proof(alloc, text, proof)
         }
-        _ => Err(Memory),
+        _ => unreachable!(),
     }
 }

@@ -17,7 +17,7 @@ use Rattle.chan_syntax.specs.declared.resources.Res.{Res}
 use Rattle.chan_syntax.specs.declared.resources.Equation.{Equation}
 use Rattle.chan_syntax.specs.declared.resources.Equation.TheVariants as equation
 use Rattle.chan_syntax.specs.declared.resources.Proto.{Proto}
-use Rattle.chan_syntax.specs.declared.operands.Supply.{Supply, Unit as SupplyUnit, Pair' as SupplyPair', Left', Right', Sum as SupplySum, Row_of-Supply, end_of-Supply, more_of-Supply}
+use Rattle.chan_syntax.specs.declared.operands.Supply.{Supply, Unit as SupplyUnit, Pair' as SupplyPair', Arm', Sum as SupplySum, Row_of-Supply, end_of-Supply, more_of-Supply}
 use Rattle.chan_syntax.specs.declared.operands.Pat.{Pat}
 use Rattle.chan_syntax.specs.declared.operands.Letter.{Letter}
 use Rattle.chan_syntax.specs.declared.operands.Letter.TheVariants as letter
@@ -53,12 +53,17 @@ abbrev mutual
   shape_of (Int term) = resource.Int (term_of term)
   shape_of (End ref) = resource.End (ref_of ref)
   shape_of (Pair' _ first _ second) = resource.Pair (res_in first) (res_in second)
-  shape_of (Sum' _ left _ right) = resource.Sum (res_in left) (res_in right)
+  shape_of (Sum' _ arms) = resource.Sum (resources_in arms)
 
   -- what a box holds: a row of one resource
   pub res_in : {m : _} → Row_of-Res m → resource.Res
   res_in end_of-Res = resource.Binds (record { names = []; limits = [] }) resource.Unit
   res_in (more_of-Res bound shape rest) = resource.Binds (bound_of bound) (shape_of shape)
+
+  -- the resources of a row
+  pub resources_in : {m : _} → Row_of-Res m → resource.Resources
+  resources_in end_of-Res = resource.NoMore
+  resources_in (more_of-Res bound shape rest) = resource.More (resource.Binds (bound_of bound) (shape_of shape)) (resources_in rest)
 
 abbrev pub res_of : Res → resource.Res
 res_of res = resource.Binds (bound_of res.bound) (shape_of res.shape)
@@ -79,8 +84,7 @@ abbrev mutual
   pub supply_of : Supply → operand.Supply
   supply_of SupplyUnit = operand.Unit
   supply_of (SupplyPair' _ first _ second) = operand.Pair (supply_in first) (supply_in second)
-  supply_of (Left' _ value) = operand.Left (supply_in value)
-  supply_of (Right' _ value) = operand.Right (supply_in value)
+  supply_of (Arm' number _ value) = operand.Arm number (supply_in value)
   supply_of (SupplySum term) = operand.Sum (term_of term)
 
   pub supply_in : {m : _} → Row_of-Supply m → operand.Supply

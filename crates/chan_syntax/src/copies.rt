@@ -1,10 +1,11 @@
 //! Copies of what a program's text names.
+ghost use Rattle.chan_syntax.specs.declared.resources.Equation.TheVariants.{Branch, Recv, Send};
 ghost use Rattle.std.specs.Prelude.{◌≡◌, IfOk};
 
-use crate::identifiers::{Ident, Idents, Spans};
+use crate::identifiers::{Ident, Idents};
 use crate::linear::{Bound, Limit, Limits, Part, Term, TermParts, Terms};
-use crate::resources::{Equation, Param, Params, Ref, Res, Shape};
-use chan_base::Memory;
+use crate::resources::{Equation, Param, Params, Ref, Res, Resources, Shape};
+use chan_base::{Memory, Spans};
 use sqlite_items::{Boxed, Items};
 use std::alloc::Global;
 
@@ -139,13 +140,20 @@ impl Shape {
                 let second = Boxed::new(alloc, second.get().copy(alloc)?)?;
                 Ok(Shape::Pair(first, second))
             }
-            Shape::Sum(left, right) => {
-                let left = Boxed::new(alloc, left.get().copy(alloc)?)?;
-                let right = Boxed::new(alloc, right.get().copy(alloc)?)?;
-                Ok(Shape::Sum(left, right))
-            }
+            Shape::Sum(arms) => Ok(Shape::Sum(copy_resources(alloc, arms)?)),
         }
     }
+}
+
+#[cycle(copying)]
+fn copy_resources(alloc: Global, resources: &Resources) -> Result<Resources, Memory>
+    ensures { IfOk result (λ copy. copy ≡ resources.now) }
+{
+    let mut copy = Items::new(alloc);
+    for resource in resources.as_slice() {
+        copy.push(resource.copy(alloc)?)?;
+    }
+    Ok(copy)
 }
 
 impl Res {
@@ -191,25 +199,45 @@ fn copy_next(alloc: Global, next: &Option<Ref>) -> Result<Option<Ref>, Memory>
     }
 }
 
+fn copy_branch(
+    alloc: Global,
+    left: &Term,
+    right: &Term,
+    yes: &Ref,
+    no: &Ref,
+) -> Result<Equation, Memory>
+    ensures { IfOk result (λ copy. copy ≡ Branch left.now right.now yes.now no.now) }
+{
+    Ok(Equation::Branch(
+        left.copy(alloc)?,
+        right.copy(alloc)?,
+        yes.copy(alloc)?,
+        no.copy(alloc)?,
+    ))
+}
+
+fn copy_send(alloc: Global, res: &Res, next: &Option<Ref>) -> Result<Equation, Memory>
+    ensures { IfOk result (λ copy. copy ≡ Send res.now next.now) }
+{
+    Ok(Equation::Send(res.copy(alloc)?, copy_next(alloc, next)?))
+}
+
+fn copy_recv(alloc: Global, res: &Res, next: &Option<Ref>) -> Result<Equation, Memory>
+    ensures { IfOk result (λ copy. copy ≡ Recv res.now next.now) }
+{
+    Ok(Equation::Recv(res.copy(alloc)?, copy_next(alloc, next)?))
+}
+
 impl Equation {
     pub fn copy(&self, alloc: Global) -> Result<Equation, Memory>
         ensures { IfOk result (λ copy. copy ≡ self.now) }
     {
         match self {
-            Equation::Send(res, next) => {
-                Ok(Equation::Send(res.copy(alloc)?, copy_next(alloc, next)?))
-            }
-            Equation::Recv(res, next) => {
-                Ok(Equation::Recv(res.copy(alloc)?, copy_next(alloc, next)?))
-            }
+            Equation::Send(res, next) => copy_send(alloc, res, next),
+            Equation::Recv(res, next) => copy_recv(alloc, res, next),
             Equation::Close => Ok(Equation::Close),
             Equation::Wait => Ok(Equation::Wait),
-            Equation::Branch(left, right, yes, no) => Ok(Equation::Branch(
-                left.copy(alloc)?,
-                right.copy(alloc)?,
-                yes.copy(alloc)?,
-                no.copy(alloc)?,
-            )),
+            Equation::Branch(left, right, yes, no) => copy_branch(alloc, left, right, yes, no),
         }
     }
 }

@@ -1,4 +1,4 @@
-//! Names in a program's text, and where pieces of the text stand.
+//! Names in a program's text.
 ghost use Rattle.std.specs.Prelude.{◌≡◌, Some, IfOk, nat_eq, refl};
 ghost use Rattle.std.specs.Ordering.{nat_cmp};
 ghost use Rattle.std.specs.Cmp.{partial_equiv_from_equiv};
@@ -10,18 +10,6 @@ use std::cmp::Ordering;
 use std::marker::Model;
 
 pub type Idents = Items<Ident>;
-
-pub type Spans = Items<Span>;
-
-/// Where a piece of the text stands: its bytes are those from `start` to `stop`, which is
-/// excluded. Lines and columns count from 1, and a column counts bytes.
-#[derive(Clone, Copy, Debug, PartialEq, Eq)]
-pub struct Span {
-    pub start: u32,
-    pub stop: u32,
-    pub line: u32,
-    pub column: u32,
-}
 
 /// A name in a program, a list of ASCII bytes.
 #[derive(Debug, Drop)]

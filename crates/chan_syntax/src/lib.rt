@@ -11,13 +11,14 @@ mod resources;
 mod surface_tree;
 
 pub use copies::{copy_names, copy_params, copy_spans, copy_terms};
-pub use identifiers::{Ident, Idents, Span, Spans};
+pub use identifiers::{Ident, Idents};
 pub use linear::{Bound, Limit, Limits, Part, Relation, Term, TermParts, Terms};
 pub use operand_copies::{copy_path, copy_supplies};
 pub use operands::{
     Certs, Letter, Pat, Path, Proof, Supplies, Supply, WrittenCert, WrittenMention, WrittenMentions,
 };
-pub use resources::{Equation, Param, Params, Proto, Protos, Ref, Res, Shape};
+pub use resources::{Equation, Param, Params, Proto, Protos, Ref, Refs, Res, Resources, Shape};
 pub use surface_tree::{
-    Block, Body, Decl, Decls, Last, Start, Starts, Stmt, Stmts, Surface, SurfaceFunc, SurfaceProto,
+    Block, Blocks, Body, Decl, Decls, Last, Start, Starts, Stmt, Stmts, Surface, SurfaceArm,
+    SurfaceArms, SurfaceFunc, SurfaceProto,
 };

@@ -3,7 +3,8 @@ ghost use Rattle.std.specs.Prelude.{◌≡◌, ◌≤◌, ◌^◌, unsigned_abs}
 ghost use Rattle.linear_forms.specs.Terms.{times_of};
 ghost use Rattle.chan_syntax.specs.Reading.{part_of};
 
-use crate::identifiers::{Ident, Idents, Span, Spans};
+use crate::identifiers::{Ident, Idents};
+use chan_base::{Span, Spans};
 use sqlite_items::Items;
 
 pub type TermParts = Items<Part>;
@@ -14,7 +15,7 @@ pub type Limits = Items<Limit>;
 
 /// A product of a sum: a factor, times the value of a name where there is one, taken away from the
 /// sum where it is negative.
-#[derive(Debug, Drop)]
+#[derive(Drop)]
 pub struct Part {
     pub negative: bool,
     pub factor: i64,
@@ -33,20 +34,20 @@ impl Part {
     }
 }
 
-#[derive(Debug, Drop)]
+#[derive(Drop)]
 pub struct Term {
     pub parts: TermParts,
     pub span: Span,
 }
 
-#[derive(Clone, Copy, Debug, PartialEq, Eq)]
+#[derive(Clone, Copy, PartialEq, Eq)]
 pub enum Relation {
     AtMost,
     Less,
     Same,
 }
 
-#[derive(Debug, Drop)]
+#[derive(Drop)]
 pub struct Limit {
     pub left: Term,
     pub relation: Relation,
@@ -54,7 +55,7 @@ pub struct Limit {
 }
 
 /// Integer variables that are bound, and the limits that they keep.
-#[derive(Debug, Drop)]
+#[derive(Drop)]
 pub struct Bound {
     pub names: Idents,
     pub names_spans: Spans,

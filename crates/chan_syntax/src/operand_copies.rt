@@ -44,8 +44,10 @@ impl Supply {
                 let second = Boxed::new(alloc, second.get().copy(alloc)?)?;
                 Ok(Supply::Pair(first, second))
             }
-            Supply::Left(value) => Ok(Supply::Left(Boxed::new(alloc, value.get().copy(alloc)?)?)),
-            Supply::Right(value) => Ok(Supply::Right(Boxed::new(alloc, value.get().copy(alloc)?)?)),
+            Supply::Arm(number, value) => {
+                let value = Boxed::new(alloc, value.get().copy(alloc)?)?;
+                Ok(Supply::Arm(*number, value))
+            }
             Supply::Sum(term) => Ok(Supply::Sum(term.copy(alloc)?)),
         }
     }

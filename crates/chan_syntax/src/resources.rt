@@ -1,14 +1,19 @@
 //! What a value is worth, and the protocols of channels.
-use crate::identifiers::{Ident, Idents, Span, Spans};
+use crate::identifiers::{Ident, Idents};
 use crate::linear::{Bound, Term, Terms};
+use chan_base::{Span, Spans};
 use sqlite_items::{Boxed, Items};
 
 pub type Params = Items<Param>;
 
 pub type Protos = Items<Proto>;
 
+pub type Resources = Items<Res>;
+
+pub type Refs = Items<Ref>;
+
 /// A protocol at some arguments, or its dual.
-#[derive(Debug, Drop)]
+#[derive(Drop)]
 pub struct Ref {
     pub dual: bool,
     pub name: Ident,
@@ -24,7 +29,7 @@ pub enum Shape {
     Int(Term),
     End(Ref),
     Pair(Boxed<Res>, Boxed<Res>),
-    Sum(Boxed<Res>, Boxed<Res>),
+    Sum(Resources),
 }
 
 /// A resource: some integers within limits, and a shape that may name them.

@@ -1,8 +1,9 @@
 //! The tree of a text, as it was written.
-use crate::identifiers::{Ident, Idents, Span, Spans};
+use crate::identifiers::{Ident, Idents};
 use crate::linear::{Bound, Term};
 use crate::operands::{Pat, Path, Proof, Supplies, Supply};
-use crate::resources::{Equation, Param, Params, Ref, Res, Shape};
+use crate::resources::{Equation, Param, Params, Ref, Refs, Res, Shape};
+use chan_base::{Span, Spans};
 use sqlite_items::{Boxed, Items};
 
 pub type Decls = Items<Decl>;
@@ -10,6 +11,10 @@ pub type Decls = Items<Decl>;
 pub type Starts = Items<Start>;
 
 pub type Stmts = Items<Stmt>;
+
+pub type Blocks = Items<Block>;
+
+pub type SurfaceArms = Items<SurfaceArm>;
 
 #[derive(Drop)]
 pub struct Surface {
@@ -41,8 +46,7 @@ pub enum Body {
         offer: bool,
         next: Ident,
         next_span: Span,
-        left: Ref,
-        right: Ref,
+        refs: Refs,
     },
 }
 
@@ -195,7 +199,7 @@ pub enum Stmt {
         span: Span,
     },
     Choose {
-        right: bool,
+        arm: u8,
         name: Ident,
         name_span: Span,
         channel: Ident,
@@ -217,6 +221,14 @@ pub enum Stmt {
         term: Term,
         span: Span,
     },
+}
+
+/// An arm of a match: what its value is bound to, and what goes on from there.
+#[cycle(surface)]
+#[derive(Drop)]
+pub struct SurfaceArm {
+    pub pat: Pat,
+    pub block: Block,
 }
 
 #[cycle(surface)]
@@ -244,10 +256,7 @@ pub enum Last {
     Match {
         name: Ident,
         name_span: Span,
-        left: Pat,
-        yes: Block,
-        right: Pat,
-        no: Block,
+        arms: SurfaceArms,
         span: Span,
     },
     Branch {
@@ -260,8 +269,7 @@ pub enum Last {
         bit_span: Span,
         rest: Ident,
         rest_span: Span,
-        yes: Block,
-        no: Block,
+        blocks: Blocks,
         span: Span,
     },
     Absurd {

@@ -8,9 +8,9 @@ ghost use Rattle.machine_values.specs.Reading.{why_of};
 ghost use Rattle.chan_machine.specs.Reading.{entry_of, ending_as};
 ghost use Rattle.chanl_lines.specs.Lines as spec;
 
-use chan_base::{Bytes, Memory, Name};
+use chan_base::{Bytes, Memory, Name, Span};
 use chan_machine::{Ending, Entry, Event, StuckWhy};
-use chan_syntax::{Ident, Span};
+use chan_syntax::Ident;
 use form_faults::{Ill, IllKind};
 use std::alloc::Global;
 

@@ -5,25 +5,30 @@ use std::test::Fail;
 
 /// Bodies of `main` that compute a number that is too large.
 const HALTING_BODIES: &str = "\
-let a = 9223372036854775807 + 1; ret () => stopped range main
-let a = -9223372036854775807 - 2; ret () => stopped range main
-let a = 4611686018427387904; let b = 2*a; ret () => stopped range main
-let a = 4611686018427387904; let b = -2*a; ret () => stopped range main
-let a = 4611686018427387904; let b = a + a - a; ret () => stopped range main
-let a = -9223372036854775807 - 1; let b = -a; ret () => stopped range main
-let a = mul(4611686018427387904, 2); ret () => stopped range main
-let a = mul(9223372036854775807 + 1, 0); ret () => stopped range main
-let a = mul(0, 9223372036854775807 + 1); ret () => stopped range main
-let a = div(9223372036854775807 + 1, 2); ret () => stopped range main
-let a = rem(9223372036854775807 + 1, 2); ret () => stopped range main
-print 1; print 9223372036854775807 + 1; ret () => 1 / stopped range main
-if 9223372036854775807 + 1 <= 0 { ret () } else { ret () } => stopped range main
-if 0 <= -9223372036854775807 - 2 { ret () } else { ret () } => stopped range main
-let a = same(9223372036854775807 + 1); ret () => stopped range main
-same((1, inl (2, 9223372036854775807 + 1))) => stopped range main
-ret 9223372036854775807 + 1 => stopped range main
-let v = void(); let a = same((9223372036854775807 + 1, 2*v)); ret () => stopped range main
-let v = void(); print 9223372036854775807 + 1 + v; ret () => stopped range main
+let a = greatest(); let b = a + 1; ret () => stopped range main
+let a = least(); let b = a - 1; ret () => stopped range main
+let a = greatest(); let b = 2*a; ret () => stopped range main
+let a = greatest(); let b = -2*a; ret () => stopped range main
+let a = greatest(); let b = a + a - a; ret () => stopped range main
+let a = least(); let b = -a; ret () => stopped range main
+let a = least(); let b = 1 - a; ret () => stopped range main
+let a = greatest(); let b = 9223372036854775807*a; ret () => stopped range main
+let a = greatest(); let b = mul(a, 2); ret () => stopped range main
+let a = least(); let b = mul(-1, a); ret () => stopped range main
+let a = least(); let b = mul(a, a); ret () => stopped range main
+let a = greatest(); let b = mul(a + 1, 0); ret () => stopped range main
+let a = greatest(); let b = mul(0, a + 1); ret () => stopped range main
+let a = greatest(); let b = div(a + 1, 2); ret () => stopped range main
+let a = greatest(); let b = rem(a + 1, 2); ret () => stopped range main
+let a = greatest(); print 1; print a + 1; ret () => 1 / stopped range main
+let a = greatest(); if a + 1 <= 0 { ret () } else { ret () } => stopped range main
+let a = least(); if 0 <= a - 1 { ret () } else { ret () } => stopped range main
+let a = greatest(); let b = same(a + 1); ret () => stopped range main
+let a = greatest(); same((1, inl (2, a + 1))) => stopped range main
+let a = greatest(); same(#15 #2 (a + 1, 0)) => stopped range main
+let a = greatest(); ret a + 1 => stopped range main
+let v = void(); let a = greatest(); let b = same((a + 1, 2*v)); ret () => stopped range main
+let v = void(); let a = greatest(); print a + 1 + v; ret () => stopped range main
 ";
 
 /// Bodies of `main` that can't go on.
@@ -31,15 +36,15 @@ const STUCK_BODIES: &str = "\
 let v = void(); print v; ret () => stuck main not int
 let v = void(); let a = v; ret () => stuck main not int
 let v = void(); let a = 1 + 0*v; ret () => stuck main not int
-let v = void(); let a = mul(v, 9223372036854775807 + 1); ret () => stuck main not int
+let v = void(); let a = greatest(); let b = mul(v, a + 1); ret () => stuck main not int
 let v = void(); let a = div(v, 2); ret () => stuck main not int
 let v = void(); let a = rem(1 - v, 2); ret () => stuck main not int
 let v = same((1, 2)); if v <= 0 { ret () } else { ret () } => stuck main not int
 let v = same(inl 1); if 0 <= v { ret () } else { ret () } => stuck main not int
 let v = void(); ret 2*v => stuck main not int
 let v = void(); same(v + 0) => stuck main not int
-let v = void(); same((2*v, 9223372036854775807 + 1)) => stuck main not int
-let v = void(); print v + 9223372036854775807 + 1; ret () => stuck main not int
+let v = void(); let a = greatest(); same((2*v, a + 1)) => stuck main not int
+let v = void(); let a = greatest(); print v + a + 1; ret () => stuck main not int
 let a = 1; send1 a (); ret () => stuck main not end
 let v = void(); send1 v 2*v; ret () => stuck main not int
 let v = void(); let w = recv1 v; ret () => stuck main not end
@@ -47,6 +52,10 @@ let a = 1; let (b, c) = a; ret () => stuck main not pair
 let a = same(inl ((), ())); let (b, c) = a; ret () => stuck main not pair
 let a = 1; match a { inl b { ret () } inr b { ret () } } => stuck main not sum
 let a = same((inl 1, 2)); match a { inl b { ret () } inr b { ret () } } => stuck main not sum
+let a = same(#2 1); match a { inl b { ret () } inr b { ret () } } => stuck main not sum
+let a = same(#15 1); match a { inl b { ret () } inr b { ret () } #2 b { print b; ret () } } => stuck main not sum
+let a = same(#3 1); let (b, c) = a; ret () => stuck main not pair
+let a = same(#3 1); print a; ret () => stuck main not int
 print 1; absurd => 1 / stuck main absurd
 ";
 
@@ -59,7 +68,7 @@ const STOPPED: [Row; 6] = [
   if a <= 1 { ret 1 with [1] }
   else { let b = a - 1; let c [k] = factorial(b) with [n - 1]; let d = mul(a, c); ret d with [d] }
 }
-fn main() -> unit { let a [m] = factorial(21) with [21]; print a; ret () }
+fn main() -> unit { let a [m] = factorial(34) with [34]; print a; ret () }
 ",
         "stopped range main",
     ),
@@ -67,7 +76,7 @@ fn main() -> unit { let a [m] = factorial(21) with [21]; print a; ret () }
     (
         REPLAY,
         "proto Fin() = recv unit;
-fn kid [n](y: end ~Fin(), a: int(n)) -> unit { let b = a + 1; send1 y (); ret () }
+fn kid [n](y: end ~Fin(), a: int(n)) -> unit { let b = mul(a, a); let d = 3*b; send1 y (); ret () }
 
 fn main() -> unit {
   let c = fork Fin() kid(9223372036854775807) with [9223372036854775807];
@@ -80,7 +89,7 @@ fn main() -> unit {
     (
         REPLAY,
         "proto Fin() = recv unit;
-fn kid [n](y: end ~Fin(), a: int(n)) -> unit { let b = a + 1; send1 y (); ret () }
+fn kid [n](y: end ~Fin(), a: int(n)) -> unit { let b = mul(a, a); let d = 3*b; send1 y (); ret () }
 
 fn main() -> unit {
   let c = fork Fin() kid(9223372036854775807) with [9223372036854775807];
@@ -96,7 +105,10 @@ fn main() -> unit {
         &["replay", "--rounds", "50"],
         "proto Fin() = recv unit;
 fn kid(y: end ~Fin()) -> unit { kid(y) }
-fn main() -> unit { let c = fork Fin() kid(); let a = 9223372036854775807 + 1; ret () }
+fn main() -> unit {
+  let a = 9223372036854775807; let b = mul(a, a);
+  let c = fork Fin() kid(); let d = 3*b; ret ()
+}
 ",
         "stopped range main",
     ),
@@ -105,7 +117,10 @@ fn main() -> unit { let c = fork Fin() kid(); let a = 9223372036854775807 + 1; r
         REPLAY,
         "proto Put() = send int(1);
 fn sink(y: end ~Put(), a: int(1)) -> unit { let v = recv1 y; ret () }
-fn main() -> unit { let c = fork Put() sink(9223372036854775807 + 1); ret () }
+fn main() -> unit {
+  let a = 9223372036854775807; let b = mul(a, a);
+  let c = fork Put() sink(3*b); ret ()
+}
 ",
         "stopped range main",
     ),
@@ -114,7 +129,10 @@ fn main() -> unit { let c = fork Put() sink(9223372036854775807 + 1); ret () }
         REPLAY,
         "proto Put() = send int(1);
 fn sink(y: end ~Put()) -> unit { let v = recv1 y; ret () }
-fn main() -> unit { let c = fork Put() sink(); send1 c (1, 9223372036854775807 + 1); ret () }
+fn main() -> unit {
+  let a = 9223372036854775807; let b = mul(a, a);
+  let c = fork Put() sink(); send1 c (1, 3*b); ret ()
+}
 ",
         "stopped range main",
     ),
@@ -211,7 +229,10 @@ fn main() -> unit { let c = fork Fin() kid(); absurd }
         REPLAY,
         "proto Fin() = recv unit;
 fn kid(y: end ~Fin()) -> unit { absurd }
-fn main() -> unit { let c = fork Fin() kid(); let a = 9223372036854775807 + 1; ret () }
+fn main() -> unit {
+  let a = 9223372036854775807; let b = mul(a, a);
+  let c = fork Fin() kid(); let d = 3*b; ret ()
+}
 ",
         "stuck main.0 absurd",
     ),

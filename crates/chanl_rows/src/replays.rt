@@ -18,6 +18,13 @@ let a = div(-7, 2); let b = rem(-7, 2); print a; print b; ret () => -4 / 1 / fin
 let a = div(-8, 2); let b = rem(-8, 2); print a; print b; ret () => -4 / 0 / finished
 let a = div(-1, 9223372036854775807); let b = rem(-1, 9223372036854775807); print a; print b; ret () => -1 / 9223372036854775806 / finished
 let a = div(-9223372036854775807 - 1, 1); let b = rem(-9223372036854775807 - 1, 10); print a; print b; ret () => -9223372036854775808 / 2 / finished
+let a = greatest(); let b = least(); print a; print b; print a + b; ret () => 170141183460469231731687303715884105727 / -170141183460469231731687303715884105728 / -1 / finished
+let a = greatest(); let b = a + 0; let c = 1*a - 1 + 1; print b; print -c; ret () => 170141183460469231731687303715884105727 / -170141183460469231731687303715884105727 / finished
+let a = greatest(); let b = mul(a, -1); print b - 1; ret () => -170141183460469231731687303715884105728 / finished
+let a = least(); let b = div(a, 2); let c = rem(a, 10); print b; print c; ret () => -85070591730234615865843651857942052864 / 2 / finished
+let a = least(); let b = div(a, 9223372036854775807); let c = rem(a, 9223372036854775807); print b; print c; ret () => -18446744073709551619 / 9223372036854775805 / finished
+let a = greatest(); let b = least(); if b <= a { print 1; ret () } else { print 2; ret () } => 1 / finished
+let a = 9223372036854775807 + 1; print a; print 2*a; ret () => 9223372036854775808 / 18446744073709551616 / finished
 let a = div(0, 5); let b = rem(4, 5); print a + b; ret () => 4 / finished
 if 0 <= 0 { print 1; ret () } else { print 2; ret () } => 1 / finished
 if 1 <= 0 { print 1; ret () } else { print 2; ret () } => 2 / finished
@@ -27,6 +34,9 @@ let a = same((1, (2, 3))); let (b, c) = a; let (d, e) = c; print b; print d; pri
 let a = same(inl 4); match a { inl b { print b; ret () } inr b { print -b; ret () } } => 4 / finished
 let a = same(inr 4); match a { inl b { print b; ret () } inr b { print -b; ret () } } => -4 / finished
 let a = same((inl (1, ()), inr inl 2)); let (b, c) = a; match c { inl d { ret () } inr d { match d { inl e { print e; ret () } inr e { ret () } } } } => 2 / finished
+let a = same(#2 4); match a { inl b { ret () } inr b { ret () } #2 b { print b; ret () } } => 4 / finished
+let a = same(#0 4); match a { inl b { print b; ret () } inr b { ret () } #2 b { ret () } } => 4 / finished
+let a = same(#1 (2, #15 7)); match a { inl b { ret () } inr b { let (c, d) = b; print c; ret () } #2 b { ret () } } => 2 / finished
 let v = void(); let w = same(v); let a = same((w, 1)); let (b, c) = a; print c; same(b) => 1 / finished
 let v = void(); let w = same(v) with [9223372036854775807 + 1]; ret w => finished
 ";
@@ -40,9 +50,9 @@ const PROGRAMS: [Row; 15] = [
   if a <= 1 { ret 1 with [1] }
   else { let b = a - 1; let c [k] = factorial(b) with [n - 1]; let d = mul(a, c); ret d with [d] }
 }
-fn main() -> unit { let a [m] = factorial(20) with [20]; print a; ret () }
+fn main() -> unit { let a [m] = factorial(33) with [33]; print a; ret () }
 ",
-        "2432902008176640000 / finished",
+        "8683317618811886495518194401280000000 / finished",
     ),
     // A sum that is taken apart.
     (

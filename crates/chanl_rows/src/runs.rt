@@ -8,9 +8,12 @@ pub(crate) type Row = (&'static [&'static str], &'static str, &'static str);
 
 pub(crate) const REPLAY: &[&str] = &["replay"];
 
-/// What stands before a body of `main`.
+/// What stands before a body of `main`. `greatest` and `least` give the ends of 128 bits, which no
+/// text can write.
 const HEAD: &str = "fn void() -> unit { ret () }
 fn same(a: unit) -> unit { ret a }
+fn greatest() -> unit { let a = 9223372036854775807; let b = mul(a, a); ret 2*b + 4*a + 1 }
+fn least() -> unit { let a = 9223372036854775807; let b = mul(a, a); ret -2*b - 4*a - 2 }
 fn main() -> unit { ";
 
 pub(crate) fn programs_end(

@@ -5,7 +5,7 @@ use Rattle.core_language.specs.Programs.{Program}
 use Rattle.core_programs.specs.declared.nodes.Parts.{Parts}
 use Rattle.core_programs.specs.Bodies.{program_of}
 use Rattle.core_programs.specs.Form.{HasForm}
-use Rattle.session_layer.specs.Core.{is_core}
+use Rattle.core_trees.specs.Core.{is_core}
 use Rattle.session_layer.specs.Lowering.{IsLowered}
 use Rattle.session_layer.specs.Pure.{program_in}
 use Rattle.session_layer.proofs.Said.{says_the_tree}

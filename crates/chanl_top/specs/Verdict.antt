@@ -12,7 +12,7 @@ use Rattle.chan_syntax.specs.declared.surface_tree.Surface.{Surface}
 use Rattle.form_faults.specs.declared.faults.Ill.{Ill}
 use Rattle.core_programs.specs.declared.nodes.Parts.{Parts}
 use Rattle.core_programs.specs.Form.{HasForm, IsFault}
-use Rattle.session_layer.specs.Core.{is_core}
+use Rattle.core_trees.specs.Core.{is_core}
 use Rattle.session_layer.specs.Lowering.{IsLowered}
 use Rattle.session_layer.specs.Pure.{program_in}
 use Rattle.text_tokens.specs.Text.{Token, HasTokens, Fault, bad_byte, bad_token, number_too_large, IsFirstFault}

@@ -20,7 +20,7 @@ use Rattle.core_language.specs.Laws.{HaltsOrSteps}
 abbrev Agrees : {A : Type 0} → Computed A → Computed A → Type 0
 Agrees m u = ((why : Halt) × (m ≡ Halts why)) ⊎ (m ≡ u)
 
-abbrev ActsAlike : Act → Act → Type 0
+abbrev pub ActsAlike : Act → Act → Type 0
 ActsAlike m u = ((why : Halt) × (m ≡ act.IsHalted why)) ⊎ (m ≡ u)
 
 same_then : {A B : Type 0} (m : Computed A) (f g : A → Computed B) → ((a : A) → Agrees (f a) (g a)) → Agrees (and_then m f) (and_then m g)
@@ -60,8 +60,7 @@ supplied-agrees : (env : Env) (s : Supply) → Agrees (supplied machine env s) (
 supplied-agrees env supply.Unit = inr refl
 supplied-agrees env (supply.Pair s t) =
     and_then-agrees _ _ _ _ (supplied-agrees env s) (λ a. and_then-agrees _ _ _ _ (supplied-agrees env t) (λ b. inr refl))
-supplied-agrees env (supply.Left s) = and_then-agrees _ _ _ _ (supplied-agrees env s) (λ a. inr refl)
-supplied-agrees env (supply.Right s) = and_then-agrees _ _ _ _ (supplied-agrees env s) (λ a. inr refl)
+supplied-agrees env (supply.Arm i s) = and_then-agrees _ _ _ _ (supplied-agrees env s) (λ a. inr refl)
 supplied-agrees env (supply.Sum term) = term_value-agrees env term (bare_name term)
 
 all_supplied-agrees : (env : Env) (ss : List Supply) → Agrees (all_supplied machine env ss) (all_supplied unbounded env ss)
@@ -114,11 +113,11 @@ act_at-alike program p forks (body.Print span term next) env callers = with_resu
 act_at-alike program p forks (body.If span left right this other) env callers =
     with_result-alike _ _ _ _ (sum_of-agrees env left) (λ a. with_result-alike _ _ _ _ (sum_of-agrees env right) (λ b. inr refl))
 act_at-alike program p forks (body.Split span first second x next) env callers = inr refl
-act_at-alike program p forks (body.Match span x left this right other) env callers = inr refl
+act_at-alike program p forks (body.Match span x arms) env callers = inr refl
 act_at-alike program p forks (body.Absurd span proof) env callers = inr refl
 act_at-alike program p forks (body.Ret span value proof) env callers = with_result-alike _ _ _ _ (supplied-agrees env value) (λ v. inr refl)
 
-act_of-alike : (program : Program) (p : Name) (forks : ℕ) (place : Place) → ActsAlike (act_of machine program p forks place) (act_of unbounded program p forks place)
+pub act_of-alike : (program : Program) (p : Name) (forks : ℕ) (place : Place) → ActsAlike (act_of machine program p forks place) (act_of unbounded program p forks place)
 act_of-alike program p forks Ended = inr refl
 act_of-alike program p forks (Running rest env callers) = act_at-alike program p forks rest env callers
 

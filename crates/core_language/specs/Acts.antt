@@ -1,7 +1,8 @@
 -- What a task does next by itself, whatever the other tasks do.
 use Rattle.std.specs.Prelude.{ℕ, ℤ, int_le, if◌then◌else◌, List, [], ◌∷◌, ◌++◌, Option, Some, None}
 use Rattle.core_language.specs.Names.{Name, Ident, child}
-use Rattle.core_language.specs.Programs.{Body, Program, Function, Param, function_named}
+use Rattle.core_language.specs.Operands.{Pat}
+use Rattle.core_language.specs.Programs.{Body, Program, Function, Param, function_named, arm_at}
 use Rattle.core_language.specs.Programs as body
 use Rattle.core_language.specs.Values.{Value}
 use Rattle.core_language.specs.Values as value
@@ -53,27 +54,29 @@ on_end (Some (value.End c)) go = go c
 on_end (Some (value.Int z)) go = IsStuck NotEnd
 on_end (Some value.Unit) go = IsStuck NotEnd
 on_end (Some (value.Pair a b)) go = IsStuck NotEnd
-on_end (Some (value.Left a)) go = IsStuck NotEnd
-on_end (Some (value.Right a)) go = IsStuck NotEnd
+on_end (Some (value.Arm i a)) go = IsStuck NotEnd
 on_end None go = IsStuck NotEnd
 
 abbrev pub on_pair : Option Value → (Value → Value → Act) → Act
 on_pair (Some (value.Pair a b)) go = go a b
 on_pair (Some (value.Int z)) go = IsStuck NotPair
 on_pair (Some value.Unit) go = IsStuck NotPair
-on_pair (Some (value.Left a)) go = IsStuck NotPair
-on_pair (Some (value.Right a)) go = IsStuck NotPair
+on_pair (Some (value.Arm i a)) go = IsStuck NotPair
 on_pair (Some (value.End c)) go = IsStuck NotPair
 on_pair None go = IsStuck NotPair
 
-abbrev pub on_sum : Option Value → (Value → Act) → (Value → Act) → Act
-on_sum (Some (value.Left a)) left right = left a
-on_sum (Some (value.Right a)) left right = right a
-on_sum (Some (value.Int z)) left right = IsStuck NotSum
-on_sum (Some value.Unit) left right = IsStuck NotSum
-on_sum (Some (value.Pair a b)) left right = IsStuck NotSum
-on_sum (Some (value.End c)) left right = IsStuck NotSum
-on_sum None left right = IsStuck NotSum
+abbrev pub on_sum : Option Value → (ℕ → Value → Act) → Act
+on_sum (Some (value.Arm i a)) go = go i a
+on_sum (Some (value.Int z)) go = IsStuck NotSum
+on_sum (Some value.Unit) go = IsStuck NotSum
+on_sum (Some (value.Pair a b)) go = IsStuck NotSum
+on_sum (Some (value.End c)) go = IsStuck NotSum
+on_sum None go = IsStuck NotSum
+
+-- the body of an arm, where there is one with the value's number
+abbrev pub chosen : Option (Pat × Body) → Env → List Caller → Value → Act
+chosen (Some arm) env callers v = Silent (at arm.1 (bound env arm.0.name v) callers)
+chosen None env callers v = IsStuck NotSum
 
 -- the fork makes a channel and a task of one name, and gives each task one end
 abbrev pub forked : Limits → Program → Name → ℕ → Ident → Ident → Body → Env → List Caller → List Value → Act
@@ -111,8 +114,8 @@ act_at limits program p forks (body.If span left right this other) env callers =
     Silent (at (if int_le a b then this else other) env callers)))
 act_at limits program p forks (body.Split span first second x next) env callers =
     on_pair (value_of env x) (λ a b. Silent (at next (bound (bound env first.name a) second.name b) callers))
-act_at limits program p forks (body.Match span x left this right other) env callers =
-    on_sum (value_of env x) (λ a. Silent (at this (bound env left.name a) callers)) (λ a. Silent (at other (bound env right.name a) callers))
+act_at limits program p forks (body.Match span x arms) env callers =
+    on_sum (value_of env x) (λ i v. chosen (arm_at arms i) env callers v)
 act_at limits program p forks (body.Absurd span proof) env callers = IsStuck Absurd
 act_at limits program p forks (body.Ret span value proof) env callers =
     with_result (supplied limits env value) (returned callers)

@@ -19,7 +19,7 @@ pub data StuckWhy : Type 0 where
   Absurd : StuckWhy
   Deep : StuckWhy
 
--- why the machine can't make a task's step: an integer outside 64 bits, or too long a name
+-- why the machine can't make a task's step: an integer outside 128 bits, or too long a name
 pub data Halt : Type 0 where
   Range : Halt
   Depth : Halt
@@ -33,10 +33,10 @@ pub record Limits : Type 0 where
 abbrev pub unbounded : Limits
 unbounded = record { holds = λ z. true; forks = λ p. true }
 
--- the limits of the machine: 64 bits, and names of at most 1,024 parts
+-- the limits of the machine: 128 bits, and names of at most 1,024 parts
 abbrev pub machine : Limits
 machine = record {
-  holds = λ z. not (int_lt z (negsuc 9223372036854775807)) && not (int_lt (pos 9223372036854775807) z);
+  holds = λ z. not (int_lt z (negsuc 170141183460469231731687303715884105727)) && not (int_lt (pos 170141183460469231731687303715884105727) z);
   forks = λ p. nat_lt (length p) 1024;
 }
 
@@ -65,8 +65,7 @@ abbrev pub as_int : Option Value → Computed ℤ
 as_int (Some (value.Int z)) = Done z
 as_int (Some value.Unit) = Sticks NotInt
 as_int (Some (value.Pair a b)) = Sticks NotInt
-as_int (Some (value.Left a)) = Sticks NotInt
-as_int (Some (value.Right a)) = Sticks NotInt
+as_int (Some (value.Arm i a)) = Sticks NotInt
 as_int (Some (value.End c)) = Sticks NotInt
 as_int None = Sticks NotInt
 
@@ -125,8 +124,7 @@ abbrev pub supplied : Limits → Env → Supply → Computed Value
 supplied limits env supply.Unit = Done value.Unit
 supplied limits env (supply.Pair s t) =
     and_then (supplied limits env s) (λ a. and_then (supplied limits env t) (λ b. shallow (value.Pair a b)))
-supplied limits env (supply.Left s) = and_then (supplied limits env s) (λ a. shallow (value.Left a))
-supplied limits env (supply.Right s) = and_then (supplied limits env s) (λ a. shallow (value.Right a))
+supplied limits env (supply.Arm i s) = and_then (supplied limits env s) (λ a. shallow (value.Arm i a))
 supplied limits env (supply.Sum term) = term_value limits env term (bare_name term)
 
 -- the values, from left to right

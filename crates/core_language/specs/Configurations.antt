@@ -5,7 +5,7 @@ use Rattle.core_language.specs.Names.{Name, NameMap, Ident, main, same}
 use Rattle.core_language.specs.Terms.{Term}
 use Rattle.core_language.specs.Operands.{Supply, Pat}
 use Rattle.core_language.specs.Operands as supply
-use Rattle.core_language.specs.Programs.{Body, Program, Function, main_function}
+use Rattle.core_language.specs.Programs.{Body, Arms, Program, Function, main_function}
 use Rattle.core_language.specs.Programs as body
 use Rattle.core_language.specs.Values.{Value}
 use Rattle.core_language.specs.Computing.{Env}
@@ -23,8 +23,7 @@ in_term x (part ∷ parts) = is_name x part.name || in_term x parts
 abbrev pub in_supply : Ident → Supply → Bool
 in_supply x supply.Unit = false
 in_supply x (supply.Pair s t) = in_supply x s || in_supply x t
-in_supply x (supply.Left s) = in_supply x s
-in_supply x (supply.Right s) = in_supply x s
+in_supply x (supply.Arm i s) = in_supply x s
 in_supply x (supply.Sum term) = in_term x term
 
 abbrev pub in_supplies : Ident → List Supply → Bool
@@ -32,22 +31,28 @@ in_supplies x [] = false
 in_supplies x (s ∷ ss) = in_supply x s || in_supplies x ss
 
 -- the body names the variable in an operand, a value, a channel or what it takes apart
-abbrev pub names : Body → Ident → Bool
-names (body.Let span y term next) x = in_term x term || names next x
-names (body.Mul span y left right next) x = in_term x left || in_term x right || names next x
-names (body.Div span y term divisor next) x = in_term x term || names next x
-names (body.Rem span y term divisor next) x = in_term x term || names next x
-names (body.Call span pat func values proof next) x = in_supplies x values || names next x
-names (body.Tail span func values proof) x = in_supplies x values
-names (body.Fork span y proto func values proof next) x = in_supplies x values || names next x
-names (body.Send1 span channel path value proof next) x = same x channel || in_supply x value || names next x
-names (body.Recv1 span pat channel path proof next) x = same x channel || names next x
-names (body.Print span term next) x = in_term x term || names next x
-names (body.If span left right this other) x = in_term x left || in_term x right || names this x || names other x
-names (body.Split span first second y next) x = same x y || names next x
-names (body.Match span y left this right other) x = same x y || names this x || names other x
-names (body.Absurd span proof) x = false
-names (body.Ret span value proof) x = in_supply x value
+abbrev mutual
+  pub names : Body → Ident → Bool
+  names (body.Let span y term next) x = in_term x term || names next x
+  names (body.Mul span y left right next) x = in_term x left || in_term x right || names next x
+  names (body.Div span y term divisor next) x = in_term x term || names next x
+  names (body.Rem span y term divisor next) x = in_term x term || names next x
+  names (body.Call span pat func values proof next) x = in_supplies x values || names next x
+  names (body.Tail span func values proof) x = in_supplies x values
+  names (body.Fork span y proto func values proof next) x = in_supplies x values || names next x
+  names (body.Send1 span channel path value proof next) x = same x channel || in_supply x value || names next x
+  names (body.Recv1 span pat channel path proof next) x = same x channel || names next x
+  names (body.Print span term next) x = in_term x term || names next x
+  names (body.If span left right this other) x = in_term x left || in_term x right || names this x || names other x
+  names (body.Split span first second y next) x = same x y || names next x
+  names (body.Match span y arms) x = same x y || arms_name arms x
+  names (body.Absurd span proof) x = false
+  names (body.Ret span value proof) x = in_supply x value
+
+  -- the body of some arm names it
+  pub arms_name : Arms → Ident → Bool
+  arms_name body.NoArm x = false
+  arms_name (body.Arm pat next arms) x = names next x || arms_name arms x
 
 -- the variables that the body still names
 abbrev pub kept : Body → Env → Env

@@ -7,8 +7,7 @@ use Rattle.core_language.specs.Terms.{Term}
 pub data Supply : Type 0 where
   Unit : Supply
   Pair : Supply → Supply → Supply
-  Left : Supply → Supply
-  Right : Supply → Supply
+  Arm : (number : ℕ) → Supply → Supply
   Sum : Term → Supply
 
 -- a name for a value, and names for the integers that its resource binds

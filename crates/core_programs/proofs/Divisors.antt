@@ -1,49 +1,24 @@
 -- Where no pass finds a fault, divisors are positive.
-use Rattle.std.proofs.Common.{◌≡◌, ℕ, zero, suc, ◌<◌, not, nat_eq, List, [], ◌∷◌, ◌++◌, length, Some, slice_get, refl, sym, ap, ◌∙◌, subst, arith}
-use Rattle.chan_syntax.specs.declared.identifiers.Span.{Span}
+use Rattle.std.proofs.Common.{◌≡◌, ℕ, zero, suc, ◌<◌, not, nat_eq, List, [], ◌∷◌, length, Some, slice_get, sym, ap, ◌∙◌, subst, arith}
+use Rattle.chan_base.specs.declared.spans.Span.{Span}
 use Rattle.form_faults.specs.declared.faults.Ill.{Ill}
 use Rattle.form_faults.specs.declared.sorts.Known.{Known}
 use Rattle.form_faults.specs.declared.sorts.Naming.TheVariants as naming
 use Rattle.form_faults.specs.declared.signatures.Signature.{Signature}
 use Rattle.form_faults.specs.Faults.{unless}
 use Rattle.form_faults.specs.Resources.{header_scope, header_faults}
-use Rattle.form_faults.specs.Scopes.{bind_all, twice_all}
+use Rattle.form_faults.specs.Scopes.{bind_all}
 use Rattle.form_faults.specs.Terms.{term_faults}
 use Rattle.core_programs.specs.declared.nodes.Node.{Node}
 use Rattle.core_programs.specs.declared.nodes.Node.TheVariants as node
 use Rattle.core_programs.specs.declared.nodes.Func.{Func}
 use Rattle.core_programs.specs.declared.nodes.Parts.{Parts}
 use Rattle.core_programs.specs.Formed.{nexts, Leads, HasDivisor, IsNumbered}
-use Rattle.core_programs.specs.Trees.{Tree, Grown, at_number, tree, grown}
-use Rattle.core_programs.specs.Passes.{operand_faults, first_binders, second_binders, body_faults, func_faults, funcs_faults, protos_faults, proto_signatures, func_signatures}
+use Rattle.core_programs.specs.Trees.{tree, grown}
+use Rattle.core_programs.specs.Passes.{operand_faults, binders_at, body_faults, func_faults, funcs_faults, protos_faults, proto_signatures, func_signatures}
 use Rattle.core_programs.specs.Form.{IsFormed}
 use Rattle.core_programs.proofs.Growing.{tree_grown}
-
-none_left : (a b : List Ill) → a ++ b ≡ [] → a ≡ []
-none_left [] b is = refl
-none_left (x ∷ a) b is = cc
-
-none_right : (a b : List Ill) → a ++ b ≡ [] → b ≡ []
-none_right [] b is = is
-none_right (x ∷ a) b is = cc
-
--- a node names two numbers at most
-two_at_most : (x : Node) (k m : ℕ) → slice_get (nexts x) (suc (suc k)) ≡ Some m → ⊥
-two_at_most (node.Let name name_at term next span) k m is = cc
-two_at_most (node.Mul name name_at left right next span) k m is = cc
-two_at_most (node.Div name name_at term divisor divisor_at next span) k m is = cc
-two_at_most (node.Rem name name_at term divisor divisor_at next span) k m is = cc
-two_at_most (node.Call pat func func_at values proof next span) k m is = cc
-two_at_most (node.Tail func func_at values proof span) k m is = cc
-two_at_most (node.Fork name name_at proto func func_at values proof next span) k m is = cc
-two_at_most (node.Send1 channel channel_at path path_at value proof next span) k m is = cc
-two_at_most (node.Recv1 pat channel channel_at path path_at proof next span) k m is = cc
-two_at_most (node.Print term next span) k m is = cc
-two_at_most (node.If left right this other span) k m is = cc
-two_at_most (node.Split first second name name_at next span) k m is = cc
-two_at_most (node.Match name name_at left this right other span) k m is = cc
-two_at_most (node.Absurd proof span) k m is = cc
-two_at_most (node.Ret value proof span) k m is = cc
+use Rattle.core_programs.proofs.Clean.{none_left, none_right, operands_clean, body_clean}
 
 none_of_one : (ill : Ill) → ill ∷ [] ≡ [] → ⊥
 none_of_one ill is = cc
@@ -70,25 +45,9 @@ divides protos funcs scope (node.Recv1 pat channel channel_at path path_at proof
 divides protos funcs scope (node.Print term next span) none = tt
 divides protos funcs scope (node.If left right this other span) none = tt
 divides protos funcs scope (node.Split first second name name_at next span) none = tt
-divides protos funcs scope (node.Match name name_at left this right other span) none = tt
+divides protos funcs scope (node.Match name name_at arms span) none = tt
 divides protos funcs scope (node.Absurd proof span) none = tt
 divides protos funcs scope (node.Ret value proof span) none = tt
-
--- what a body without faults is made of has none
-parts_clean : (protos funcs : List Signature) (scope : List Known) (x : Node) (first second : Tree) → body_faults protos funcs scope (Grown x first second) ≡ []
-    → (operand_faults protos funcs scope x ≡ []) × (body_faults protos funcs (bind_all scope (first_binders x)) first ≡ []) × (body_faults protos funcs (bind_all scope (second_binders x)) second ≡ [])
-unfolding body_faults
-parts_clean protos funcs scope x first second none =
-    let operands = operand_faults protos funcs scope x in
-    let one = twice_all scope (first_binders x) in
-    let two = twice_all scope (second_binders x) in
-    let here = body_faults protos funcs (bind_all scope (first_binders x)) first in
-    let there = body_faults protos funcs (bind_all scope (second_binders x)) second in
-    let bodies = none_right operands ((one ++ here) ++ (two ++ there)) none in (
-      none_left operands ((one ++ here) ++ (two ++ there)) none,
-      none_right one here (none_left (one ++ here) (two ++ there) bodies),
-      none_right two there (none_right (one ++ here) (two ++ there) bodies),
-    )
 
 module _ (protos funcs : List Signature) (parts : Parts) (numbered : IsNumbered parts) where
   -- no fault in the body at a number, in some scope
@@ -101,15 +60,7 @@ module _ (protos funcs : List Signature) (parts : Parts) (numbered : IsNumbered 
 
   -- nor in the bodies that its node names
   turned : (n : ℕ) (x : Node) (turn next : ℕ) → n < length parts.nodes → slice_get parts.nodes n ≡ Some x → slice_get (nexts x) turn ≡ Some next → IsClean n → IsClean next
-  turned n x zero next lt is picked (scope, none) =
-      let two = at_number (slice_get (nexts x) 1) (tree parts.nodes) in
-      let clean = (parts_clean protos funcs scope x (at_number (slice_get (nexts x) 0) (tree parts.nodes)) two (opened n x scope lt is none)).1 in
-      (bind_all scope (first_binders x), subst (λ o. body_faults protos funcs (bind_all scope (first_binders x)) (at_number o (tree parts.nodes)) ≡ []) picked clean)
-  turned n x (suc zero) next lt is picked (scope, none) =
-      let one = at_number (slice_get (nexts x) 0) (tree parts.nodes) in
-      let clean = (parts_clean protos funcs scope x one (at_number (slice_get (nexts x) 1) (tree parts.nodes)) (opened n x scope lt is none)).2 in
-      (bind_all scope (second_binders x), subst (λ o. body_faults protos funcs (bind_all scope (second_binders x)) (at_number o (tree parts.nodes)) ≡ []) picked clean)
-  turned n x (suc (suc k)) next lt is picked clean = absurd (two_at_most x k next picked)
+  turned n x turn next lt is picked (scope, none) = (bind_all scope (binders_at x turn), body_clean protos funcs (tree parts.nodes) x scope turn next (opened n x scope lt is none) picked)
 
   led : (turns : List ℕ) (n m : ℕ) → n < length parts.nodes → Leads parts.nodes n turns m → IsClean n → IsClean m
   led [] n m lt leads clean = subst IsClean leads clean
@@ -135,6 +86,4 @@ divisor_at parts n x formed lt is =
     let (f, turns, (func, has, leads), unique) = formed.numbered.once n lt in
     let none = none_right (protos_faults protos parts.protos) _ formed.form.1.0 in
     let (scope, clean) = led protos funcs parts formed.numbered turns func.first n (formed.numbered.firsts f func has) leads (clean_func protos funcs parts formed.numbered parts.funcs f func has none) in
-    let one = at_number (slice_get (nexts x) 0) (tree parts.nodes) in
-    let two = at_number (slice_get (nexts x) 1) (tree parts.nodes) in
-    divides protos funcs scope x (parts_clean protos funcs scope x one two (opened protos funcs parts formed.numbered n x scope lt is clean)).0
+    divides protos funcs scope x (operands_clean protos funcs (tree parts.nodes) x scope (opened protos funcs parts formed.numbered n x scope lt is clean))

@@ -8,15 +8,22 @@ use Rattle.std.specs.List.{AllByRecursion, IsDistinct, list_any}
 use Rattle.core_language.specs.Programs as core
 use Rattle.core_programs.specs.declared.nodes.Node.{Node}
 use Rattle.core_programs.specs.declared.nodes.Node.TheVariants as node
+use Rattle.core_programs.specs.declared.nodes.Arm.{Arm}
 use Rattle.core_programs.specs.declared.nodes.Parts.{Parts}
 use Rattle.chan_syntax.specs.Reading.{term_of, ref_of, supply_of, pat_of, letter_of, proof_of}
-use Rattle.core_programs.specs.Bodies.{span_of, opened, opened_at, rest_within, rest}
+use Rattle.core_programs.specs.Bodies.{span_of, arms_opened, opened, opened_at, rest_within, rest}
 use Rattle.core_programs.specs.Formed.{nexts, Leads, Reaches, IsNumbered}
 
 -- every walk from the number ends within the depth
 abbrev pub Ends : ℕ → List Node → ℕ → Type 0
 Ends zero nodes n = ⊥
 Ends (suc d) nodes n = (x : Node) × (slice_get nodes n ≡ Some x) × ((k m : ℕ) → slice_get (nexts x) k ≡ Some m → Ends d nodes m)
+
+arms_same : (arms : List Arm) (f g : ℕ → core.Body) → ((k m : ℕ) → slice_get (map (λ arm. arm.next) arms) k ≡ Some m → f m ≡ g m) → arms_opened arms f ≡ arms_opened arms g
+arms_same [] f g same = refl
+arms_same (arm ∷ arms) f g same =
+    ap (λ b. core.Arm (pat_of arm.pat) b (arms_opened arms f)) (same 0 arm.next refl)
+    ∙ ap (core.Arm (pat_of arm.pat) (g arm.next)) (arms_same arms f g (λ k m at. same (suc k) m at))
 
 opened_same : (x : Node) (f g : ℕ → core.Body) → ((k m : ℕ) → slice_get (nexts x) k ≡ Some m → f m ≡ g m) → opened x f ≡ opened x g
 opened_same (node.Let name name_at term next span) f g same = ap (core.Let (span_of span) name (term_of term)) (same 0 next refl)
@@ -33,9 +40,7 @@ opened_same (node.If left right this other span) f g same =
     ap (λ b. core.If (span_of span) (term_of left) (term_of right) b (f other)) (same 0 this refl)
     ∙ ap (core.If (span_of span) (term_of left) (term_of right) (g this)) (same 1 other refl)
 opened_same (node.Split first second name name_at next span) f g same = ap (core.Split (span_of span) (pat_of first) (pat_of second) name) (same 0 next refl)
-opened_same (node.Match name name_at left this right other span) f g same =
-    ap (λ b. core.Match (span_of span) name (pat_of left) b (pat_of right) (f other)) (same 0 this refl)
-    ∙ ap (core.Match (span_of span) name (pat_of left) (g this) (pat_of right)) (same 1 other refl)
+opened_same (node.Match name name_at arms span) f g same = ap (core.Match (span_of span) name) (arms_same arms f g same)
 opened_same (node.Absurd proof span) f g same = refl
 opened_same (node.Ret value proof span) f g same = refl
 

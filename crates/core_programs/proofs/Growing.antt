@@ -1,19 +1,17 @@
 -- Where each number is reached in one way, the tree at a number is grown of those at the numbers that follow.
-use Rattle.std.proofs.Common.{◌≡◌, ℕ, zero, suc, ◌<◌, ◌≤◌, List, [], length, Option, Some, None, slice_get, refl, sym, ap, ◌∙◌, subst, arith}
+use Rattle.std.proofs.Common.{◌≡◌, ℕ, zero, suc, ◌<◌, ◌≤◌, List, [], ◌∷◌, length, Some, slice_get, refl, sym, ap, ◌∙◌, subst, arith}
 use Rattle.core_programs.specs.declared.nodes.Node.{Node}
 use Rattle.core_programs.specs.declared.nodes.Parts.{Parts}
 use Rattle.core_programs.specs.Formed.{nexts, IsNumbered}
-use Rattle.core_programs.specs.Trees.{Tree, Grown, at_number, grown, grown_at, tree_within, tree}
+use Rattle.core_programs.specs.Trees.{Tree, Grown, More, all_grown, grown, grown_at, tree_within, tree}
 use Rattle.core_programs.proofs.Forests.{Ends, ends, nothing_distinct}
 
-number_same : (o : Option ℕ) (f g : ℕ → Tree) → ((m : ℕ) → o ≡ Some m → f m ≡ g m) → at_number o f ≡ at_number o g
-number_same None f g same = refl
-number_same (Some n) f g same = same n refl
+all_same : (ns : List ℕ) (f g : ℕ → Tree) → ((k m : ℕ) → slice_get ns k ≡ Some m → f m ≡ g m) → all_grown ns f ≡ all_grown ns g
+all_same [] f g same = refl
+all_same (n ∷ ns) f g same = ap (λ t. More t (all_grown ns f)) (same 0 n refl) ∙ ap (More (g n)) (all_same ns f g (λ k m at. same (suc k) m at))
 
 grown_same : (x : Node) (f g : ℕ → Tree) → ((k m : ℕ) → slice_get (nexts x) k ≡ Some m → f m ≡ g m) → grown x f ≡ grown x g
-grown_same x f g same =
-    ap (λ t. Grown x t (at_number (slice_get (nexts x) 1) f)) (number_same (slice_get (nexts x) 0) f g (same 0))
-    ∙ ap (Grown x (at_number (slice_get (nexts x) 0) g)) (number_same (slice_get (nexts x) 1) f g (same 1))
+grown_same x f g same = ap (Grown x) (all_same (nexts x) f g same)
 
 -- a greater depth grows the same tree
 deeper : (d e : ℕ) (nodes : List Node) (n : ℕ) → Ends d nodes n → d ≤ e → tree_within e nodes n ≡ tree_within d nodes n

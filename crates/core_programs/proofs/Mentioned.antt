@@ -8,13 +8,15 @@ use Rattle.core_language.specs.Terms.{Term}
 use Rattle.core_language.specs.Operands.{Supply}
 use Rattle.core_language.specs.Operands as supply
 use Rattle.core_language.specs.Programs.{Body}
-use Rattle.core_language.specs.Configurations.{is_name, in_term, in_supply, in_supplies, names}
+use Rattle.core_language.specs.Configurations.{is_name, in_term, in_supply, in_supplies, names, arms_name}
 use Rattle.chan_syntax.specs.Reading.{term_of, supply_of}
+use Rattle.core_programs.specs.declared.nodes.Arm.{Arm}
 use Rattle.core_programs.specs.declared.nodes.Node.{Node}
 use Rattle.core_programs.specs.declared.nodes.Node.TheVariants as node
-use Rattle.core_programs.specs.Bodies.{opened}
+use Rattle.core_programs.specs.Bodies.{arms_opened, opened}
 use Rattle.core_programs.specs.Formed.{nexts}
-use Rattle.core_programs.specs.Uses.{term_names, supply_names, supplies_names, mentions}
+use Rattle.name_uses.specs.Uses.{term_names, supply_names, supplies_names}
+use Rattle.core_programs.specs.Uses.{mentions}
 
 pub off : (b : Bool) → (b || false) ≡ b
 off true = refl
@@ -38,8 +40,7 @@ module _ (x : Ident) where
       list_any-append (same x) (supply_names s) (supply_names t)
       ∙ ap (λ b. b || list_any (same x) (supply_names t)) (supply_any s)
       ∙ ap (λ b. in_supply x s || b) (supply_any t)
-  supply_any (supply.Left s) = supply_any s
-  supply_any (supply.Right s) = supply_any s
+  supply_any (supply.Arm i s) = supply_any s
   supply_any (supply.Sum term) = term_any term
 
   supplies_any : (ss : List Supply) → list_any (same x) (supplies_names ss) ≡ in_supplies x ss
@@ -65,6 +66,10 @@ module _ (x : Ident) where
   two a true c d e = sym (ap (λ z. z || (c || (d || false))) e)
   two a false c d e = ap (λ z. c || z) (sym (off d)) ∙ sym (ap (λ z. z || (c || (d || false))) e)
 
+  arms_any : (arms : List Arm) (at : ℕ → Body) → arms_name (arms_opened arms at) x ≡ list_any (λ k. names (at k) x) (map (λ arm. arm.next) arms)
+  arms_any [] at = refl
+  arms_any (arm ∷ arms) at = ap (λ b. names (at arm.next) x || b) (arms_any arms at)
+
   -- what the body of a node names
   pub names_opened : (n : Node) (at : ℕ → Body) → names (opened n at) x ≡ (list_any (same x) (mentions n) || list_any (λ k. names (at k) x) (nexts n))
   names_opened (node.Let name name_at term next span) at = one _ _ (names (at next) x) (term_any (term_of term))
@@ -81,6 +86,7 @@ module _ (x : Ident) where
   names_opened (node.If left right this other span) at =
       two _ _ (names (at this) x) (names (at other) x) (terms_any (term_of left) (term_of right))
   names_opened (node.Split first second name name_at next span) at = one _ _ (names (at next) x) (off (same x name))
-  names_opened (node.Match name name_at left this right other span) at = two _ _ (names (at this) x) (names (at other) x) (off (same x name))
+  names_opened (node.Match name name_at arms span) at =
+      ap (λ b. same x name || b) (arms_any arms at) ∙ ap (λ b. b || list_any (λ k. names (at k) x) (map (λ arm. arm.next) arms)) (sym (off (same x name)))
   names_opened (node.Absurd proof span) at = refl
   names_opened (node.Ret value proof span) at = none _ _ (supply_any (supply_of value))

@@ -9,10 +9,12 @@ use Rattle.core_programs.specs.declared.nodes.Node.{Node}
 use Rattle.core_programs.specs.declared.nodes.Parts.{Parts}
 use Rattle.core_programs.specs.Bodies.{rest}
 use Rattle.core_programs.specs.Formed.{nexts, IsNumbered}
-use Rattle.core_programs.specs.Uses.{mentions, uses_from, is_between, StandBefore, IsContiguous}
+use Rattle.name_uses.specs.Uses.{is_between}
+use Rattle.core_programs.specs.Uses.{mentions, uses_from, StandBefore, IsContiguous}
 use Rattle.core_programs.proofs.Forests.{rest_opened}
 use Rattle.core_programs.proofs.Mentioned.{names_opened}
-use Rattle.core_programs.proofs.Using.{Mentions, same_truth, used, uses, between, bounds}
+use Rattle.name_uses.proofs.Searching.{between}
+use Rattle.core_programs.proofs.Using.{Mentions, same_truth, used, uses, bounds}
 
 module _ (parts : Parts) (numbered : IsNumbered parts) (x : Ident) where
   abbrev pub named : ℕ → Bool

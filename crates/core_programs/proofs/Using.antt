@@ -2,11 +2,12 @@
 use Rattle.std.proofs.Common.{◌≡◌, ℕ, zero, suc, ◌+◌, ◌<◌, ◌≤◌, Bool, true, false, ◌||◌, ◌&&◌, cond, leb, List, [], ◌∷◌, ◌++◌, length, get_or, Some, slice_get, ⊎_elim, refl, sym, ap, ◌∙◌, subst, arith}
 use Rattle.std.specs.List.{list_any}
 use Rattle.std.specs.List.Sorted.{IsNonDecreasing}
-use Rattle.std.proofs.lemmas.Bool.{and_parts, and_from, or_cases, or_left, or_right, leb-true, le-leb}
+use Rattle.std.proofs.lemmas.Bool.{and_parts, and_from, or_cases, or_left, or_right, leb-true}
 use Rattle.std.proofs.lemmas.List.Folds.{list_any-append}
 use Rattle.core_language.specs.Names.{Ident, same}
 use Rattle.core_programs.specs.declared.nodes.Node.{Node}
-use Rattle.core_programs.specs.Uses.{mentions, times, uses_from, is_between}
+use Rattle.name_uses.specs.Uses.{times, is_between}
+use Rattle.core_programs.specs.Uses.{mentions, uses_from}
 
 -- the node at a number mentions the name
 abbrev pub Mentions : List Node → Ident → ℕ → Type 0
@@ -95,9 +96,6 @@ pub ascending : (numbers : List ℕ) (nodes : List Node) (x : Ident) → numbers
 ascending numbers nodes x is = subst IsNonDecreasing (sym is) (rises 0 (uses_from 0 nodes x) (from_uses 0 nodes x))
 
 -- ---- between two numbers
-
-pub between : (low high n : ℕ) → low ≤ n → n ≤ high → is_between low high n ≡ true
-between low high n from to = and_from _ _ (le-leb low n from) (le-leb n high to)
 
 pub bounds : (low high n : ℕ) → is_between low high n ≡ true → (low ≤ n) × (n ≤ high)
 bounds low high n is = let (from, to) = and_parts (leb low n) (leb n high) is in (leb-true low n from, leb-true n high to)

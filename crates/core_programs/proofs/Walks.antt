@@ -1,6 +1,7 @@
 -- One turn of the walk over a body leaves its first fault as it is.
-use Rattle.std.proofs.Common.{◌≡◌, ℕ, ◌+◌, ◌<◌, ◌≤◌, List, [], ◌∷◌, ◌++◌, length, take, Option, Some, None, slice_get, refl, sym, ap, ◌∙◌, subst, arith, append_assoc, append-nil}
+use Rattle.std.proofs.Common.{◌≡◌, ℕ, zero, suc, ◌+◌, ◌<◌, ◌≤◌, List, [], ◌∷◌, ◌++◌, length, take, Option, Some, None, slice_get, refl, sym, ap, ◌∙◌, subst, arith, append_assoc, append-nil}
 use Rattle.std.proofs.lemmas.Grind.{common_steps}
+use Rattle.std.proofs.lemmas.List.{take_all}
 use Rattle.form_faults.specs.declared.faults.Ill.{Ill}
 use Rattle.form_faults.specs.declared.sorts.Known.{Known}
 use Rattle.form_faults.specs.declared.signatures.Signature.{Signature}
@@ -11,22 +12,50 @@ use Rattle.form_faults.proofs.Binders.{all-long, all-front, bound_cut}
 use Rattle.core_programs.specs.declared.nodes.Node.{Node}
 use Rattle.core_programs.specs.declared.nodes.Parts.{Parts}
 use Rattle.core_programs.specs.declared.walking.Later.{Later}
-use Rattle.core_programs.specs.Formed.{nexts, LeadBelow, IsNumbered}
-use Rattle.core_programs.specs.Trees.{Tree, Nothing, Grown, at_number, tree}
-use Rattle.core_programs.specs.Passes.{operand_faults, first_binders, second_binders, body_faults}
+use Rattle.core_programs.specs.Formed.{nexts, IsNumbered}
+use Rattle.core_programs.specs.Trees.{Tree, Nothing, Grown, Trees, NoMore, More, all_grown, grown, tree}
+use Rattle.core_programs.specs.Passes.{operand_faults, binders_at, body_faults, bodies_faults}
 use Rattle.core_programs.proofs.Growing.{tree_grown}
 
-abbrev pub size : Tree → ℕ
-size Nothing = 0
-size (Grown x first second) = 2 + (size first + size second)
+-- the body at a number, where there is one
+abbrev pub at_number : Option ℕ → (ℕ → Tree) → Tree
+at_number None at = Nothing
+at_number (Some n) at = at n
 
-abbrev pub second_size : Tree → ℕ
-second_size Nothing = 0
-second_size (Grown x first second) = 1 + size second
+-- the bodies from a turn on
+abbrev pub from_turn : ℕ → Trees → Trees
+from_turn zero ts = ts
+from_turn (suc k) NoMore = NoMore
+from_turn (suc k) (More t ts) = from_turn k ts
+
+next_tree : (turn : ℕ) (ns : List ℕ) (at : ℕ → Tree) (n : ℕ) → slice_get ns turn ≡ Some n → from_turn turn (all_grown ns at) ≡ More (at n) (from_turn (suc turn) (all_grown ns at))
+next_tree turn [] at n is = cc
+next_tree zero (m ∷ ns) at n is = let same : m ≡ n = cc in ap (λ k. More (at k) (all_grown ns at)) same
+next_tree (suc turn) (m ∷ ns) at n is = next_tree turn ns at n is
+
+no_tree : (turn : ℕ) (ns : List ℕ) (at : ℕ → Tree) → slice_get ns turn ≡ None → from_turn turn (all_grown ns at) ≡ NoMore
+no_tree zero [] at is = refl
+no_tree (suc turn) [] at is = refl
+no_tree zero (m ∷ ns) at is = cc
+no_tree (suc turn) (m ∷ ns) at is = no_tree turn ns at is
+
+abbrev mutual
+  pub size : Tree → ℕ
+  size Nothing = 0
+  size (Grown x ts) = 2 + sizes ts
+
+  pub sizes : Trees → ℕ
+  sizes NoMore = 0
+  sizes (More t ts) = 1 + (size t + sizes ts)
+
+-- what is left of a body from a turn on
+abbrev pub left_size : ℕ → Tree → ℕ
+left_size turn Nothing = 0
+left_size turn (Grown x ts) = 1 + sizes (from_turn turn ts)
 
 abbrev pub later_size : List Node → List Later → ℕ
 later_size nodes [] = 0
-later_size nodes (l ∷ ls) = second_size (tree nodes l.number) + later_size nodes ls
+later_size nodes (l ∷ ls) = left_size l.turn (tree nodes l.number) + later_size nodes ls
 
 -- a number, where there is one, is that of a node
 abbrev pub IsAt : ℕ → Option ℕ → Type 0
@@ -55,15 +84,15 @@ Marked-pop count low [] top l (le, at, is) = (le, at, is)
 Marked-pop count low (x ∷ ls) top l (le, at, more) = let (m, n, o) = Marked-pop count x.mark ls top l more in ((le, at, m), n, o)
 
 module _ (protos funcs : List Signature) (parts : Parts) where
-  -- what the second body of a node has
-  abbrev second_faults : List Known → Tree → List Ill
-  second_faults scope Nothing = []
-  second_faults scope (Grown x first second) = twice_all scope (second_binders x) ++ body_faults protos funcs (bind_all scope (second_binders x)) second
+  -- what the bodies of a node have from a turn on
+  abbrev left_faults : List Known → ℕ → Tree → List Ill
+  left_faults scope turn Nothing = []
+  left_faults scope turn (Grown x ts) = bodies_faults protos funcs scope x turn (from_turn turn ts)
 
   -- the bodies that were put off, the last one first, each in the scope up to its mark
   abbrev later_faults : List Known → List Later → List Ill
   later_faults scope [] = []
-  later_faults scope (l ∷ ls) = later_faults scope ls ++ second_faults (take l.mark scope) (tree parts.nodes l.number)
+  later_faults scope (l ∷ ls) = later_faults scope ls ++ left_faults (take l.mark scope) l.turn (tree parts.nodes l.number)
 
   abbrev body_at : Option ℕ → Tree
   body_at at = at_number at (tree parts.nodes)
@@ -84,106 +113,105 @@ module _ (protos funcs : List Signature) (parts : Parts) where
   later-same low [] top a b marked same = refl
   later-same low (l ∷ ls) top a b (le, at, more) same =
       let one : take l.mark a ≡ take l.mark b = same l.mark (Marked-order _ l.mark ls top more) in
-      ap (λ fs. fs ++ second_faults (take l.mark a) (tree parts.nodes l.number)) (later-same l.mark ls top a b more same)
-      ∙ ap (λ s. later_faults b ls ++ second_faults s (tree parts.nodes l.number)) one
+      ap (λ fs. fs ++ left_faults (take l.mark a) l.turn (tree parts.nodes l.number)) (later-same l.mark ls top a b more same)
+      ∙ ap (λ s. later_faults b ls ++ left_faults s l.turn (tree parts.nodes l.number)) one
 
   later-push : (scope : List Known) (ls : List Later) (l : Later)
-      → later_faults scope (ls ++ (l ∷ [])) ≡ second_faults (take l.mark scope) (tree parts.nodes l.number) ++ later_faults scope ls
+      → later_faults scope (ls ++ (l ∷ [])) ≡ left_faults (take l.mark scope) l.turn (tree parts.nodes l.number) ++ later_faults scope ls
   later-push scope [] l = sym (append-nil _)
   later-push scope (x ∷ ls) l =
-      ap (λ fs. fs ++ second_faults (take x.mark scope) (tree parts.nodes x.number)) (later-push scope ls l)
-      ∙ append_assoc (second_faults (take l.mark scope) (tree parts.nodes l.number)) (later_faults scope ls) (second_faults (take x.mark scope) (tree parts.nodes x.number))
+      ap (λ fs. fs ++ left_faults (take x.mark scope) x.turn (tree parts.nodes x.number)) (later-push scope ls l)
+      ∙ append_assoc (left_faults (take l.mark scope) l.turn (tree parts.nodes l.number)) (later_faults scope ls) (left_faults (take x.mark scope) x.turn (tree parts.nodes x.number))
 
-  size-push : (ls : List Later) (l : Later) → later_size parts.nodes (ls ++ (l ∷ [])) ≡ second_size (tree parts.nodes l.number) + later_size parts.nodes ls
+  size-push : (ls : List Later) (l : Later) → later_size parts.nodes (ls ++ (l ∷ [])) ≡ left_size l.turn (tree parts.nodes l.number) + later_size parts.nodes ls
   size-push [] l = refl
   size-push (x ∷ ls) l = omega (arith, size-push ls l)
 
-  regroup : (best : Option Ill) (names binds body second later : List Ill)
-      → least best ((names ++ ((binds ++ body) ++ second)) ++ later) ≡ least (least (least best names) binds) (body ++ (second ++ later))
-  regroup best names binds body second later =
-      least-append best (names ++ ((binds ++ body) ++ second)) later
-      ∙ ap (λ b. least b later) (least-append best names ((binds ++ body) ++ second) ∙ least-append (least best names) (binds ++ body) second ∙ ap (λ b. least b second) (least-append (least best names) binds body))
-      ∙ sym (least-append (least (least (least best names) binds) body) second later)
-      ∙ sym (least-append (least (least best names) binds) body (second ++ later))
-
   module _ (numbered : IsNumbered parts) where
-    is_at : (o : Option ℕ) (x : Node) (k : ℕ) → LeadBelow x (length parts.nodes) → o ≡ slice_get (nexts x) k → IsAt (length parts.nodes) o
-    is_at None x k lead is = tt
-    is_at (Some n) x k lead is = lead k n (sym is)
-
-    grown_here : (n : ℕ) (x : Node) → n < length parts.nodes → slice_get parts.nodes n ≡ Some x
-        → tree parts.nodes n ≡ Grown x (body_at (slice_get (nexts x) 0)) (body_at (slice_get (nexts x) 1))
+    grown_here : (n : ℕ) (x : Node) → n < length parts.nodes → slice_get parts.nodes n ≡ Some x → tree parts.nodes n ≡ grown x (tree parts.nodes)
     grown_here n x lt here = tree_grown parts n x numbered lt here
 
-    -- a node is read, and the first body after it comes next
-    pub enters : (whole best named after : Option Ill) (scope new : List Known) (n : ℕ) (x : Node) (next : Option ℕ) (later : List Later) (l : Later) → Walking whole best scope (Some n) later
-        → slice_get parts.nodes n ≡ Some x → named ≡ least best (operand_faults protos funcs scope x) → l.number ≡ n → l.mark ≡ length scope
-        → after ≡ least named (twice_all scope (first_binders x)) → new ≡ bind_all scope (first_binders x) → next ≡ slice_get (nexts x) 0
-        → Walking whole after new next (later ++ (l ∷ []))
+    -- a node is read, and its bodies are put off
+    pub enters : (whole best named : Option Ill) (scope : List Known) (n : ℕ) (x : Node) (later : List Later) (l : Later) → Walking whole best scope (Some n) later
+        → slice_get parts.nodes n ≡ Some x → named ≡ least best (operand_faults protos funcs scope x) → l.number ≡ n → l.mark ≡ length scope → l.turn ≡ 0
+        → Walking whole named scope None (later ++ (l ∷ []))
     unfolding body_faults
-    enters whole best named after scope new n x next later l walk here names number mark binds bound goes = record {
+    enters whole best named scope n x later l walk here names number mark turn = record {
       same =
-          ap (λ b. least b (body_faults protos funcs new (body_at next) ++ later_faults new (later ++ (l ∷ [])))) (binds ∙ ap (λ b. least b (twice_all scope (first_binders x))) names)
-          ∙ ap (λ s. least between (body_faults protos funcs s (body_at next) ++ later_faults s (later ++ (l ∷ [])))) bound
-          ∙ ap (λ o. least between (body_faults protos funcs inner (body_at o) ++ later_faults inner (later ++ (l ∷ [])))) goes
-          ∙ ap (λ fs. least between (body_faults protos funcs inner (body_at (slice_get (nexts x) 0)) ++ fs)) put_off
-          ∙ sym (regroup best (operand_faults protos funcs scope x) (twice_all scope (first_binders x)) (body_faults protos funcs inner (body_at (slice_get (nexts x) 0)))
-          (second_faults scope (Grown x (body_at (slice_get (nexts x) 0)) (body_at (slice_get (nexts x) 1)))) (later_faults scope later))
+          ap (λ b. least b (later_faults scope (later ++ (l ∷ [])))) names
+          ∙ ap (least (least best operands)) put_off
+          ∙ sym (least-append best operands (bodies ++ later_faults scope later))
+          ∙ sym (ap (least best) (append_assoc operands bodies (later_faults scope later)))
           ∙ sym (ap (λ t. least best (body_faults protos funcs scope t ++ later_faults scope later)) (grown_here n x walk.within here))
           ∙ walk.same;
-      within = is_at next x 0 (numbered.follow n x here) goes;
-      marked = Marked-push _ 0 later (length scope) (length new) l walk.marked mark (subst (λ m. m < length parts.nodes) (sym number) walk.within) longer;
+      within = tt;
+      marked = Marked-push _ 0 later (length scope) (length scope) l walk.marked mark (subst (λ m. m < length parts.nodes) (sym number) walk.within) (omega arith);
     }
       where
-        inner : List Known
-        inner = bind_all scope (first_binders x)
+        operands : List Ill
+        operands = operand_faults protos funcs scope x
 
-        between : Option Ill
-        between = least (least best (operand_faults protos funcs scope x)) (twice_all scope (first_binders x))
+        bodies : List Ill
+        bodies = bodies_faults protos funcs scope x 0 (all_grown (nexts x) (tree parts.nodes))
 
-        longer : length scope ≤ length new
-        longer = subst (λ s. length scope ≤ length s) (sym bound) (all-long scope (first_binders x))
+        whole_scope : take l.mark scope ≡ scope
+        whole_scope = ap (λ m. take m scope) mark ∙ take_all (length scope) scope (omega arith)
 
-        put_off : later_faults inner (later ++ (l ∷ [])) ≡ second_faults scope (Grown x (body_at (slice_get (nexts x) 0)) (body_at (slice_get (nexts x) 1))) ++ later_faults scope later
+        put_off : later_faults scope (later ++ (l ∷ [])) ≡ bodies ++ later_faults scope later
         put_off =
-            later-push inner later l
-            ∙ ap (λ m. second_faults (take m inner) (tree parts.nodes l.number) ++ later_faults inner later) mark
-            ∙ ap (λ s. second_faults s (tree parts.nodes l.number) ++ later_faults inner later) (bound_cut scope (first_binders x))
-            ∙ ap (λ k. second_faults scope (tree parts.nodes k) ++ later_faults inner later) number
-            ∙ ap (λ t. second_faults scope t ++ later_faults inner later) (grown_here n x walk.within here)
-            ∙ ap (λ fs. second_faults scope (Grown x (body_at (slice_get (nexts x) 0)) (body_at (slice_get (nexts x) 1))) ++ fs)
-            (later-same 0 later (length scope) inner scope walk.marked (λ m le. all-front scope (first_binders x) m le))
+            later-push scope later l
+            ∙ ap (λ s. left_faults s l.turn (tree parts.nodes l.number) ++ later_faults scope later) whole_scope
+            ∙ ap (λ k. left_faults scope k (tree parts.nodes l.number) ++ later_faults scope later) turn
+            ∙ ap (λ k. left_faults scope 0 (tree parts.nodes k) ++ later_faults scope later) number
+            ∙ ap (λ t. left_faults scope 0 t ++ later_faults scope later) (grown_here n x walk.within here)
 
-    pub enters_smaller : (n : ℕ) (x : Node) (next : Option ℕ) (later : List Later) (l : Later) → n < length parts.nodes → slice_get parts.nodes n ≡ Some x → l.number ≡ n → next ≡ slice_get (nexts x) 0
-        → size (body_at next) + later_size parts.nodes (later ++ (l ∷ [])) < size (tree parts.nodes n) + later_size parts.nodes later
-    enters_smaller n x next later l lt here number goes =
+    pub enters_smaller : (n : ℕ) (x : Node) (later : List Later) (l : Later) → n < length parts.nodes → slice_get parts.nodes n ≡ Some x → l.number ≡ n → l.turn ≡ 0
+        → later_size parts.nodes (later ++ (l ∷ [])) < size (tree parts.nodes n) + later_size parts.nodes later
+    enters_smaller n x later l lt here number turn =
         let all = ap size (grown_here n x lt here) in
-        let second = ap second_size (ap (tree parts.nodes) number ∙ grown_here n x lt here) in
-        let first = ap (λ o. size (body_at o)) goes in
-        omega (arith, all, second, first, size-push later l)
+        let left = ap (λ k. left_size k (tree parts.nodes l.number)) turn ∙ ap (left_size 0) (ap (tree parts.nodes) number ∙ grown_here n x lt here) in
+        omega (arith, all, left, size-push later l)
 
-    -- a node's second body comes next
-    pub returns_to : (whole best after : Option Ill) (scope cut new : List Known) (x : Node) (next : Option ℕ) (old later : List Later) (l : Later) → Walking whole best scope None old
-        → slice_get parts.nodes l.number ≡ Some x → old ≡ later ++ (l ∷ []) → cut ≡ take l.mark scope
-        → after ≡ least best (twice_all cut (second_binders x)) → new ≡ bind_all cut (second_binders x) → next ≡ slice_get (nexts x) 1
-        → Walking whole after new next later
+    -- a node was put off, with the scope that it had
+    put_off : (scope cut : List Known) (x : Node) (old later : List Later) (l : Later) → l.number < length parts.nodes → slice_get parts.nodes l.number ≡ Some x → old ≡ later ++ (l ∷ []) → cut ≡ take l.mark scope
+        → later_faults scope old ≡ left_faults cut l.turn (grown x (tree parts.nodes)) ++ later_faults scope later
+    put_off scope cut x old later l lt here popped cuts =
+        ap (later_faults scope) popped
+        ∙ later-push scope later l
+        ∙ ap (λ s. left_faults s l.turn (tree parts.nodes l.number) ++ later_faults scope later) (sym cuts)
+        ∙ ap (λ t. left_faults cut l.turn t ++ later_faults scope later) (grown_here l.number x lt here)
+
+    -- the body at its turn comes next
+    pub goes_on : (whole best after : Option Ill) (scope cut new : List Known) (x : Node) (n : ℕ) (old later : List Later) (l m : Later) → Walking whole best scope None old
+        → slice_get parts.nodes l.number ≡ Some x → old ≡ later ++ (l ∷ []) → cut ≡ take l.mark scope → slice_get (nexts x) l.turn ≡ Some n → m.number ≡ l.number → m.mark ≡ l.mark → m.turn ≡ suc l.turn
+        → after ≡ least best (twice_all cut (binders_at x l.turn)) → new ≡ bind_all cut (binders_at x l.turn) → Walking whole after new (Some n) (later ++ (m ∷ []))
     unfolding body_faults
-    returns_to whole best after scope cut new x next old later l walk here popped cuts binds bound goes = record {
+    goes_on whole best after scope cut new x n old later l m walk here popped cuts goes number mark turn binds bound = record {
       same =
-          ap (λ b. least b (body_faults protos funcs new (body_at next) ++ later_faults new later)) binds
-          ∙ ap (λ s. least (least best (twice_all cut (second_binders x))) (body_faults protos funcs s (body_at next) ++ later_faults s later)) bound
-          ∙ ap (λ o. least (least best (twice_all cut (second_binders x))) (body_faults protos funcs inner (body_at o) ++ later_faults inner later)) goes
-          ∙ ap (λ fs. least (least best (twice_all cut (second_binders x))) (body_faults protos funcs inner (body_at (slice_get (nexts x) 1)) ++ fs)) kept
-          ∙ sym (ap (least best) (append_assoc (twice_all cut (second_binders x)) (body_faults protos funcs inner (body_at (slice_get (nexts x) 1))) (later_faults scope later))
-          ∙ least-append best (twice_all cut (second_binders x)) (body_faults protos funcs inner (body_at (slice_get (nexts x) 1)) ++ later_faults scope later))
-          ∙ sym (ap (λ fs. least best fs) put_off)
+          ap (λ b. least b (body_faults protos funcs new (tree parts.nodes n) ++ later_faults new (later ++ (m ∷ [])))) binds
+          ∙ ap (λ s. least (least best twice) (body_faults protos funcs s (tree parts.nodes n) ++ later_faults s (later ++ (m ∷ [])))) bound
+          ∙ ap (λ fs. least (least best twice) (body ++ fs)) put_back
+          ∙ sym (least-append best twice (body ++ (others ++ later_faults scope later)))
+          ∙ sym (ap (least best) (append_assoc twice body (others ++ later_faults scope later)))
+          ∙ sym (ap (least best) (append_assoc (twice ++ body) others (later_faults scope later)))
+          ∙ sym (ap (λ ts. least best (bodies_faults protos funcs cut x l.turn ts ++ later_faults scope later)) (next_tree l.turn (nexts x) (tree parts.nodes) n goes))
+          ∙ sym (ap (least best) (put_off scope cut x old later l marks.1 here popped cuts))
           ∙ walk.same;
-      within = is_at next x 1 (numbered.follow l.number x here) goes;
-      marked = Marked-up _ 0 later l.mark (length new) marks.0 longer;
+      within = numbered.follow l.number x here l.turn n goes;
+      marked = Marked-push _ 0 later l.mark (length new) m marks.0 mark (subst (λ k. k < length parts.nodes) (sym number) marks.1) longer;
     }
       where
         inner : List Known
-        inner = bind_all cut (second_binders x)
+        inner = bind_all cut (binders_at x l.turn)
+
+        twice : List Ill
+        twice = twice_all cut (binders_at x l.turn)
+
+        body : List Ill
+        body = body_faults protos funcs inner (tree parts.nodes n)
+
+        others : List Ill
+        others = bodies_faults protos funcs cut x (suc l.turn) (from_turn (suc l.turn) (all_grown (nexts x) (tree parts.nodes)))
 
         marks : Marked (length parts.nodes) 0 later l.mark × (l.number < length parts.nodes) × (l.mark ≤ length scope)
         marks = Marked-pop (length parts.nodes) 0 later (length scope) l (subst (λ ls. Marked (length parts.nodes) 0 ls (length scope)) popped walk.marked)
@@ -192,30 +220,60 @@ module _ (protos funcs : List Signature) (parts : Parts) where
         long = let le = marks.2 in rw cuts (grind (arith, common_steps))
 
         longer : l.mark ≤ length new
-        longer = let more = subst (λ s. length cut ≤ length s) (sym bound) (all-long cut (second_binders x)) in omega (arith, long, more)
+        longer = let more = subst (λ s. length cut ≤ length s) (sym bound) (all-long cut (binders_at x l.turn)) in omega (arith, long, more)
 
-        front : (m : ℕ) → m ≤ l.mark → take m inner ≡ take m scope
-        front m le =
-            all-front cut (second_binders x) m (omega (arith, le, long))
-            ∙ ap (take m) cuts
+        front : (k : ℕ) → k ≤ l.mark → take k inner ≡ take k scope
+        front k le =
+            all-front cut (binders_at x l.turn) k (omega (arith, le, long))
+            ∙ ap (take k) cuts
             ∙ grind (arith, common_steps)
 
-        kept : later_faults inner later ≡ later_faults scope later
-        kept = later-same 0 later l.mark inner scope marks.0 front
+        put_back : later_faults inner (later ++ (m ∷ [])) ≡ others ++ later_faults scope later
+        put_back =
+            later-push inner later m
+            ∙ ap (λ k. left_faults (take k inner) m.turn (tree parts.nodes m.number) ++ later_faults inner later) (mark ∙ sym long)
+            ∙ ap (λ s. left_faults s m.turn (tree parts.nodes m.number) ++ later_faults inner later) (bound_cut cut (binders_at x l.turn))
+            ∙ ap (λ k. left_faults cut k (tree parts.nodes m.number) ++ later_faults inner later) turn
+            ∙ ap (λ k. left_faults cut (suc l.turn) (tree parts.nodes k) ++ later_faults inner later) number
+            ∙ ap (λ t. left_faults cut (suc l.turn) t ++ later_faults inner later) (grown_here l.number x marks.1 here)
+            ∙ ap (λ fs. others ++ fs) (later-same 0 later l.mark inner scope marks.0 front)
 
-        put_off : later_faults scope old ≡ second_faults cut (Grown x (body_at (slice_get (nexts x) 0)) (body_at (slice_get (nexts x) 1))) ++ later_faults scope later
-        put_off =
-            ap (later_faults scope) popped
-            ∙ later-push scope later l
-            ∙ ap (λ s. second_faults s (tree parts.nodes l.number) ++ later_faults scope later) (sym cuts)
-            ∙ ap (λ t. second_faults cut t ++ later_faults scope later) (grown_here l.number x marks.1 here)
+    pub goes_smaller : (x : Node) (n : ℕ) (old later : List Later) (l m : Later) → l.number < length parts.nodes → slice_get parts.nodes l.number ≡ Some x → old ≡ later ++ (l ∷ []) → slice_get (nexts x) l.turn ≡ Some n
+        → m.number ≡ l.number → m.turn ≡ suc l.turn → size (tree parts.nodes n) + later_size parts.nodes (later ++ (m ∷ [])) < later_size parts.nodes old
+    goes_smaller x n old later l m lt here popped goes number turn =
+        let grown_is = grown_here l.number x lt here in
+        let before = ap (left_size l.turn) grown_is ∙ ap (λ ts. 1 + sizes ts) (next_tree l.turn (nexts x) (tree parts.nodes) n goes) in
+        let behind = ap (λ k. left_size k (tree parts.nodes m.number)) turn ∙ ap (λ k. left_size (suc l.turn) (tree parts.nodes k)) number ∙ ap (left_size (suc l.turn)) grown_is in
+        omega (arith, before, behind, ap (later_size parts.nodes) popped, size-push later l, size-push later m)
 
-    pub returns_smaller : (x : Node) (next : Option ℕ) (old later : List Later) (l : Later) → l.number < length parts.nodes → slice_get parts.nodes l.number ≡ Some x → old ≡ later ++ (l ∷ []) → next ≡ slice_get (nexts x) 1
-        → size (body_at next) + later_size parts.nodes later < later_size parts.nodes old
-    returns_smaller x next old later l lt here popped goes =
-        let second = ap second_size (grown_here l.number x lt here) in
-        let next_is = ap (λ o. size (body_at o)) goes in
-        omega (arith, second, next_is, ap (later_size parts.nodes) popped, size-push later l)
+    -- all bodies of a node were walked
+    pub leaves : (whole best : Option Ill) (scope cut : List Known) (x : Node) (old later : List Later) (l : Later) → Walking whole best scope None old
+        → slice_get parts.nodes l.number ≡ Some x → old ≡ later ++ (l ∷ []) → cut ≡ take l.mark scope → slice_get (nexts x) l.turn ≡ None → Walking whole best cut None later
+    unfolding body_faults
+    leaves whole best scope cut x old later l walk here popped cuts none = record {
+      same =
+          ap (least best) (later-same 0 later l.mark cut scope marks.0 front)
+          ∙ sym (ap (λ ts. least best (bodies_faults protos funcs cut x l.turn ts ++ later_faults scope later)) (no_tree l.turn (nexts x) (tree parts.nodes) none))
+          ∙ sym (ap (least best) (put_off scope cut x old later l marks.1 here popped cuts))
+          ∙ walk.same;
+      within = tt;
+      marked = Marked-up _ 0 later l.mark (length cut) marks.0 (omega (arith, long));
+    }
+      where
+        marks : Marked (length parts.nodes) 0 later l.mark × (l.number < length parts.nodes) × (l.mark ≤ length scope)
+        marks = Marked-pop (length parts.nodes) 0 later (length scope) l (subst (λ ls. Marked (length parts.nodes) 0 ls (length scope)) popped walk.marked)
+
+        long : length cut ≡ l.mark
+        long = let le = marks.2 in rw cuts (grind (arith, common_steps))
+
+        front : (k : ℕ) → k ≤ l.mark → take k cut ≡ take k scope
+        front k le = ap (take k) cuts ∙ grind (arith, common_steps)
+
+    pub leaves_smaller : (x : Node) (old later : List Later) (l : Later) → l.number < length parts.nodes → slice_get parts.nodes l.number ≡ Some x → old ≡ later ++ (l ∷ []) → slice_get (nexts x) l.turn ≡ None
+        → later_size parts.nodes later < later_size parts.nodes old
+    leaves_smaller x old later l lt here popped none =
+        let before = ap (left_size l.turn) (grown_here l.number x lt here) ∙ ap (λ ts. 1 + sizes ts) (no_tree l.turn (nexts x) (tree parts.nodes) none) in
+        omega (arith, before, ap (later_size parts.nodes) popped, size-push later l)
 
     pub popped_within : (whole best : Option Ill) (scope : List Known) (old later : List Later) (l : Later) → Walking whole best scope None old → old ≡ later ++ (l ∷ []) → l.number < length parts.nodes
     popped_within whole best scope old later l walk popped =

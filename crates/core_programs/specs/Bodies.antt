@@ -7,10 +7,11 @@ use Rattle.std.specs.BTreeMap.{BTreeMap, get}
 use Rattle.core_language.specs.Names.{Ident, same}
 use Rattle.core_language.specs.Operands as operand
 use Rattle.core_language.specs.Programs as core
-use Rattle.chan_syntax.specs.declared.identifiers.Span.{Span}
+use Rattle.chan_base.specs.declared.spans.Span.{Span}
 use Rattle.chan_syntax.specs.declared.resources.Param.{Param}
 use Rattle.core_programs.specs.declared.nodes.Node.{Node}
 use Rattle.core_programs.specs.declared.nodes.Node.TheVariants as node
+use Rattle.core_programs.specs.declared.nodes.Arm.{Arm}
 use Rattle.core_programs.specs.declared.nodes.Func.{Func}
 use Rattle.core_programs.specs.declared.nodes.Parts.{Parts}
 use Rattle.chan_syntax.specs.Reading.{term_of, bound_of, ref_of, shape_of, res_of, proto_of, supply_of, pat_of, letter_of, proof_of}
@@ -21,6 +22,11 @@ span_of span = record { start = span.start; stop = span.stop; line = span.line; 
 -- no instances and no certificates
 abbrev pub no_proof : operand.Proof
 no_proof = record { instances = []; certs = [] }
+
+-- the arms of a match, by the bodies at the numbers that they name
+abbrev pub arms_opened : List Arm → (ℕ → core.Body) → core.Arms
+arms_opened [] at = core.NoArm
+arms_opened (arm ∷ arms) at = core.Arm (pat_of arm.pat) (at arm.next) (arms_opened arms at)
 
 -- the body at a node, by the bodies at the numbers that it names
 abbrev pub opened : Node → (ℕ → core.Body) → core.Body
@@ -39,7 +45,7 @@ opened (node.Recv1 pat channel channel_at path path_at proof next span) at =
 opened (node.Print term next span) at = core.Print (span_of span) (term_of term) (at next)
 opened (node.If left right this other span) at = core.If (span_of span) (term_of left) (term_of right) (at this) (at other)
 opened (node.Split first second name name_at next span) at = core.Split (span_of span) (pat_of first) (pat_of second) name (at next)
-opened (node.Match name name_at left this right other span) at = core.Match (span_of span) name (pat_of left) (at this) (pat_of right) (at other)
+opened (node.Match name name_at arms span) at = core.Match (span_of span) name (arms_opened arms at)
 opened (node.Absurd proof span) at = core.Absurd (span_of span) (proof_of proof)
 opened (node.Ret value proof span) at = core.Ret (span_of span) (supply_of value) (proof_of proof)
 

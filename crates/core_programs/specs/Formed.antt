@@ -1,5 +1,5 @@
 -- What makes the parts of a program well formed.
-use Rattle.std.specs.Prelude.{◌≡◌, ℕ, ◌<◌, ◌^◌, List, [], ◌∷◌, length, Some, slice_get}
+use Rattle.std.specs.Prelude.{◌≡◌, ℕ, ◌<◌, ◌^◌, List, [], ◌∷◌, map, length, Some, slice_get}
 use Rattle.core_programs.specs.declared.nodes.Node.{Node}
 use Rattle.core_programs.specs.declared.nodes.Node.TheVariants as node
 use Rattle.core_programs.specs.declared.nodes.Func.{Func}
@@ -21,7 +21,7 @@ nexts (node.Recv1 pat channel channel_at path path_at proof next span) = next �
 nexts (node.Print term next span) = next ∷ []
 nexts (node.If left right this other span) = this ∷ other ∷ []
 nexts (node.Split first second name name_at next span) = next ∷ []
-nexts (node.Match name name_at left this right other span) = this ∷ other ∷ []
+nexts (node.Match name name_at arms span) = map (λ arm. arm.next) arms
 nexts (node.Absurd proof span) = []
 nexts (node.Ret value proof span) = []
 

@@ -1,9 +1,9 @@
 -- What the form passes find, pass by pass, in the order of the core text.
-use Rattle.std.specs.Prelude.{ℕ, ◌+◌, not, ◌&&◌, nat_eq, if◌then◌else◌, codes, length, map, Bool, true, false, List, [], ◌∷◌, ◌++◌}
+use Rattle.std.specs.Prelude.{ℕ, suc, ◌+◌, not, ◌&&◌, nat_eq, if◌then◌else◌, codes, length, map, Bool, true, false, List, [], ◌∷◌, ◌++◌, Option, Some, None, slice_get}
 use Rattle.std.specs.List.{list_any}
 use Rattle.core_language.specs.Names.{Ident, same}
 use Rattle.core_language.specs.Endings.{is_nil}
-use Rattle.chan_syntax.specs.declared.identifiers.Span.{Span}
+use Rattle.chan_base.specs.declared.spans.Span.{Span}
 use Rattle.chan_syntax.specs.declared.linear.Bound.{Bound}
 use Rattle.chan_syntax.specs.declared.resources.Shape.{Shape, Unit, Int, End, Pair', Sum'}
 use Rattle.chan_syntax.specs.declared.resources.Proto.{Proto}
@@ -22,9 +22,10 @@ use Rattle.form_faults.specs.Resources.{proto_faults, header_scope, header_fault
 use Rattle.form_faults.specs.Operands.{supply_faults, supplies_faults, proof_faults, path_faults, pat_binders}
 use Rattle.core_programs.specs.declared.nodes.Node.{Node}
 use Rattle.core_programs.specs.declared.nodes.Node.TheVariants as node
+use Rattle.core_programs.specs.declared.nodes.Arm.{Arm}
 use Rattle.core_programs.specs.declared.nodes.Func.{Func}
 use Rattle.core_programs.specs.declared.nodes.Parts.{Parts}
-use Rattle.core_programs.specs.Trees.{Tree, Nothing, Grown, tree}
+use Rattle.core_programs.specs.Trees.{Tree, Nothing, Grown, Trees, NoMore, More, tree}
 
 -- ---- pass 1: Twice among the protocols, and among the functions, at the second name
 
@@ -49,6 +50,21 @@ func_signatures funcs = map (λ f. record { name = f.name; count = length f.para
 unfoldable pub call_faults : List Signature → List Known → Ident → Span → (count : ℕ) → List Supply → Proof → List Ill
 call_faults funcs scope func func_at count values proof = use_faults funcs func func_at count ++ (supplies_faults scope values ++ proof_faults scope proof)
 
+-- a node that calls a function
+abbrev pub is_call : Node → Bool
+is_call (node.Call _ _ _ _ _ _ _) = true
+is_call (node.Tail _ _ _ _ _) = true
+is_call (node.Fork _ _ _ _ _ _ _ _ _) = true
+is_call other = false
+
+-- a node that sends, receives, or ends a body without a call
+abbrev pub is_exchange : Node → Bool
+is_exchange (node.Send1 _ _ _ _ _ _ _ _) = true
+is_exchange (node.Recv1 _ _ _ _ _ _ _ _) = true
+is_exchange (node.Absurd _ _) = true
+is_exchange (node.Ret _ _ _) = true
+is_exchange other = false
+
 -- the faults of what a node names
 unfoldable pub operand_faults : (protos funcs : List Signature) → List Known → Node → List Ill
 operand_faults protos funcs scope (node.Let name name_at term next span) = term_faults naming.Variables scope term
@@ -71,40 +87,46 @@ operand_faults protos funcs scope (node.Recv1 pat channel channel_at path path_a
 operand_faults protos funcs scope (node.Print term next span) = term_faults naming.Variables scope term
 operand_faults protos funcs scope (node.If left right this other span) = term_faults naming.Variables scope left ++ term_faults naming.Variables scope right
 operand_faults protos funcs scope (node.Split first second name name_at next span) = unscoped naming.Variables scope name name_at
-operand_faults protos funcs scope (node.Match name name_at left this right other span) = unscoped naming.Variables scope name name_at
+operand_faults protos funcs scope (node.Match name name_at arms span) = unscoped naming.Variables scope name name_at
 operand_faults protos funcs scope (node.Absurd proof span) = proof_faults scope proof
 operand_faults protos funcs scope (node.Ret value proof span) = supply_faults scope value ++ proof_faults scope proof
 
--- the names that a node binds for the body that comes first, and for the second
-unfoldable pub first_binders : Node → List Binder
-first_binders (node.Let name name_at term next span) = record { name = name; sort = sort.Variable; span = name_at } ∷ []
-first_binders (node.Mul name name_at left right next span) = record { name = name; sort = sort.Both; span = name_at } ∷ []
-first_binders (node.Div name name_at term divisor divisor_at next span) = record { name = name; sort = sort.Both; span = name_at } ∷ []
-first_binders (node.Rem name name_at term divisor divisor_at next span) = record { name = name; sort = sort.Both; span = name_at } ∷ []
-first_binders (node.Call pat func func_at values proof next span) = pat_binders pat
-first_binders (node.Tail func func_at values proof span) = []
-first_binders (node.Fork name name_at proto func func_at values proof next span) = record { name = name; sort = sort.Variable; span = name_at } ∷ []
-first_binders (node.Send1 channel channel_at path path_at value proof next span) = []
-first_binders (node.Recv1 pat channel channel_at path path_at proof next span) = pat_binders pat
-first_binders (node.Print term next span) = []
-first_binders (node.If left right this other span) = []
-first_binders (node.Split first second name name_at next span) = pat_binders first ++ pat_binders second
-first_binders (node.Match name name_at left this right other span) = pat_binders left
-first_binders (node.Absurd proof span) = []
-first_binders (node.Ret value proof span) = []
+-- the names of an arm
+abbrev pub arm_binders : Option Arm → List Binder
+arm_binders None = []
+arm_binders (Some arm) = pat_binders arm.pat
 
-unfoldable pub second_binders : Node → List Binder
-second_binders (node.Match name name_at left this right other span) = pat_binders right
-second_binders other = []
+-- the names that a node binds for the body that comes at a turn
+unfoldable pub binders_at : Node → (turn : ℕ) → List Binder
+binders_at (node.Let name name_at term next span) turn = record { name = name; sort = sort.Variable; span = name_at } ∷ []
+binders_at (node.Mul name name_at left right next span) turn = record { name = name; sort = sort.Both; span = name_at } ∷ []
+binders_at (node.Div name name_at term divisor divisor_at next span) turn = record { name = name; sort = sort.Both; span = name_at } ∷ []
+binders_at (node.Rem name name_at term divisor divisor_at next span) turn = record { name = name; sort = sort.Both; span = name_at } ∷ []
+binders_at (node.Call pat func func_at values proof next span) turn = pat_binders pat
+binders_at (node.Tail func func_at values proof span) turn = []
+binders_at (node.Fork name name_at proto func func_at values proof next span) turn = record { name = name; sort = sort.Variable; span = name_at } ∷ []
+binders_at (node.Send1 channel channel_at path path_at value proof next span) turn = []
+binders_at (node.Recv1 pat channel channel_at path path_at proof next span) turn = pat_binders pat
+binders_at (node.Print term next span) turn = []
+binders_at (node.If left right this other span) turn = []
+binders_at (node.Split first second name name_at next span) turn = pat_binders first ++ pat_binders second
+binders_at (node.Match name name_at arms span) turn = arm_binders (slice_get arms turn)
+binders_at (node.Absurd proof span) turn = []
+binders_at (node.Ret value proof span) turn = []
 
 -- the faults of a body. A node's names are bound after its operands were read; the two groups have no
 -- kind in common, so that it doesn't matter which of them the text has first
-unfoldable pub body_faults : (protos funcs : List Signature) → List Known → Tree → List Ill
-body_faults protos funcs scope Nothing = []
-body_faults protos funcs scope (Grown x first second) =
-    operand_faults protos funcs scope x
-    ++ ((twice_all scope (first_binders x) ++ body_faults protos funcs (bind_all scope (first_binders x)) first)
-    ++ (twice_all scope (second_binders x) ++ body_faults protos funcs (bind_all scope (second_binders x)) second))
+unfoldable mutual
+  pub body_faults : (protos funcs : List Signature) → List Known → Tree → List Ill
+  body_faults protos funcs scope Nothing = []
+  body_faults protos funcs scope (Grown x bodies) = operand_faults protos funcs scope x ++ bodies_faults protos funcs scope x 0 bodies
+
+  -- the bodies after a node, from a turn on
+  pub bodies_faults : (protos funcs : List Signature) → List Known → Node → (turn : ℕ) → Trees → List Ill
+  bodies_faults protos funcs scope x turn NoMore = []
+  bodies_faults protos funcs scope x turn (More body bodies) =
+      (twice_all scope (binders_at x turn) ++ body_faults protos funcs (bind_all scope (binders_at x turn)) body)
+      ++ bodies_faults protos funcs scope x (suc turn) bodies
 
 unfoldable pub func_faults : (protos funcs : List Signature) → List Node → Func → List Ill
 func_faults protos funcs nodes func =
@@ -119,10 +141,12 @@ unfoldable pub protos_faults : List Signature → List Proto → List Ill
 protos_faults protos [] = []
 protos_faults protos (p ∷ ps) = proto_faults protos p ++ protos_faults protos ps
 
+-- where the protocols and functions that are known have these names
+abbrev pub faults_under : (protos funcs : List Signature) → Parts → List Ill
+faults_under protos funcs parts = protos_faults protos parts.protos ++ funcs_faults protos funcs parts.nodes parts.funcs
+
 abbrev pub name_faults : Parts → List Ill
-name_faults parts =
-    protos_faults (proto_signatures parts.protos) parts.protos
-    ++ funcs_faults (proto_signatures parts.protos) (func_signatures parts.funcs) parts.nodes parts.funcs
+name_faults parts = faults_under (proto_signatures parts.protos) (func_signatures parts.funcs) parts
 
 -- ---- pass 3: TooMany at the protocol and at the function with the number 4,097
 
@@ -139,7 +163,7 @@ is_unit Unit = true
 is_unit (Int term) = false
 is_unit (End ref) = false
 is_unit (Pair' _ first _ second) = false
-is_unit (Sum' _ left _ right) = false
+is_unit (Sum' _ arms) = false
 
 abbrev pub is_main : Func → Bool
 is_main func = same func.name (codes "main") && (is_unbound func.bound && (is_nil func.params && (is_unbound func.result.bound && is_unit func.result.shape)))

@@ -1,21 +1,27 @@
 -- Numbered nodes as trees that keep the spans of their names.
-use Rattle.std.specs.Prelude.{ℕ, zero, suc, length, List, Option, Some, None, slice_get}
+use Rattle.std.specs.Prelude.{ℕ, zero, suc, length, List, [], ◌∷◌, Option, Some, None, slice_get}
 use Rattle.core_programs.specs.declared.nodes.Node.{Node}
 use Rattle.core_programs.specs.Formed.{nexts}
 
--- a node with the bodies that it names, the first and the second; where it names fewer there is nothing
-pub data Tree : Type 0 where
-  Nothing : Tree
-  Grown : Node → (first second : Tree) → Tree
+mutual
+  -- a node with the bodies that it names; where there is no node there is nothing
+  pub data Tree : Type 0 where
+    Nothing : Tree
+    Grown : Node → Trees → Tree
 
--- the body at the number that a node names, where it names one
-abbrev pub at_number : Option ℕ → (ℕ → Tree) → Tree
-at_number None at = Nothing
-at_number (Some n) at = at n
+  -- the bodies in their order
+  pub data Trees : Type 0 where
+    NoMore : Trees
+    More : Tree → Trees → Trees
+
+-- the bodies at these numbers
+abbrev pub all_grown : List ℕ → (ℕ → Tree) → Trees
+all_grown [] at = NoMore
+all_grown (n ∷ ns) at = More (at n) (all_grown ns at)
 
 -- the body of a node, by the bodies at the numbers that it names
 abbrev pub grown : Node → (ℕ → Tree) → Tree
-grown x at = Grown x (at_number (slice_get (nexts x) 0) at) (at_number (slice_get (nexts x) 1) at)
+grown x at = Grown x (all_grown (nexts x) at)
 
 abbrev pub grown_at : Option Node → (ℕ → Tree) → Tree
 grown_at None at = Nothing

@@ -31,7 +31,7 @@ fn unguarded(alloc: Global, protos: &[Proto], cycle: &FirstCycle) -> Result<Ill,
             names,
             span: proto.name_span,
         }),
-        None => Err(Memory),
+        None => unreachable!(),
     }
 }
 

@@ -20,5 +20,5 @@ mod wellformed;
 pub use faults::BuildFault;
 pub use form_faults::{Ill, IllKind};
 pub use forms::first_fault;
-pub use nodes::{Func, Funcs, Node, Nodes, Parts};
+pub use nodes::{Arm, Arms, Func, Funcs, Node, Nodes, Parts};
 pub use wellformed::Program;

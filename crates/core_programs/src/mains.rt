@@ -5,7 +5,8 @@ ghost use Rattle.form_faults.specs.Faults.{least};
 ghost use Rattle.core_programs.specs.Passes as spec;
 
 use crate::nodes::Func;
-use chan_syntax::{Bound, Shape, Span};
+use chan_base::Span;
+use chan_syntax::{Bound, Shape};
 use form_faults::{Ill, IllKind, note};
 use std::alloc::Global;
 

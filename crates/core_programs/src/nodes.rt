@@ -1,12 +1,15 @@
 //! The core program: functions whose bodies are numbered nodes.
+use chan_base::Span;
 use chan_syntax::{
-    Bound, Ident, Params, Pat, Path, Proof, Protos, Ref, Res, Span, Supplies, Supply, Term,
+    Bound, Ident, Params, Pat, Path, Proof, Protos, Ref, Res, Supplies, Supply, Term,
 };
 use sqlite_items::Items;
 
 pub type Funcs = Items<Func>;
 
 pub type Nodes = Items<Node>;
+
+pub type Arms = Items<Arm>;
 
 /// A function. Its body begins at the node with the number `first`.
 #[derive(Drop)]
@@ -18,6 +21,13 @@ pub struct Func {
     pub result: Res,
     pub first: u32,
     pub span: Span,
+}
+
+/// An arm of a match: what its value is bound to, and the number of the node where its body begins.
+#[derive(Drop)]
+pub struct Arm {
+    pub pat: Pat,
+    pub next: u32,
 }
 
 /// A form of a body. It names the nodes that follow it by their numbers.
@@ -126,10 +136,7 @@ pub enum Node {
     Match {
         name: Ident,
         name_span: Span,
-        left: Pat,
-        yes: u32,
-        right: Pat,
-        no: u32,
+        arms: Arms,
         span: Span,
     },
     Absurd {

@@ -3,7 +3,7 @@ ghost use Rattle.std.specs.Prelude.{◌≡◌, ◌<◌, ◌+◌, ◌^◌, length
 ghost use Rattle.core_programs.specs.Formed.{nexts};
 ghost use Rattle.core_programs.specs.Uses.{AreStarts, StandBefore};
 
-use crate::follows::{Follow, following};
+use crate::follows::{next_count, next_number};
 use crate::nodes::Node;
 use chan_base::Memory;
 use std::alloc::Global;
@@ -24,14 +24,19 @@ fn start_before(starts: &[u32], node: u32, end: u32) -> Option<u32>
 fn start_of(starts: &[u32], node: &Node, number: u32) -> Option<u32>
     ensures { IfSome result (StandBefore starts.now (nexts node.now) number) }
 {
-    match following(node) {
-        Follow::Nothing => Some(number),
-        Follow::One(next) => start_before(starts, next, number),
-        Follow::Two(this, other) => match start_before(starts, other, number) {
-            Some(middle) => start_before(starts, this, middle),
-            None => None,
-        },
+    let mut turn = next_count(node);
+    let mut start = number;
+    'turns: while turn > 0 {
+        turn -= 1;
+        let Some(next) = next_number(node, turn) else {
+            return None;
+        };
+        let Some(before) = start_before(starts, next, start) else {
+            return None;
+        };
+        start = before;
     }
+    Some(start)
 }
 
 /// Where the body at each node begins, if each node stands right behind the bodies that it names.

@@ -1,31 +1,34 @@
 //! The faults of bodies, in one walk over their nodes.
-#![tactic(auto, using(form_faults::proofs::Firsts::first_rules, form_faults::proofs::Binders::binder_rules, crate::proofs::Patterns::pattern_rules), unfolding(crate::specs::Passes::call_faults, crate::specs::Passes::operand_faults, crate::specs::Passes::first_binders, crate::specs::Passes::second_binders))]
+#![tactic(auto, using(form_faults::proofs::Firsts::first_rules, form_faults::proofs::Binders::binder_rules, crate::proofs::Patterns::pattern_rules), unfolding(crate::specs::Passes::call_faults, crate::specs::Passes::operand_faults, crate::specs::Passes::binders_at))]
 
-ghost use Rattle.std.specs.Prelude.{◌≡◌, ◌<◌, ◌+◌, ◌++◌, List, not, nat_eq, length, slice_get, IfOk, OnOk};
+ghost use Rattle.std.specs.Prelude.{◌≡◌, ◌<◌, ◌+◌, ◌++◌, List, not, true, nat_eq, length, IfOk, OnOk};
+ghost use Rattle.std.specs.Option.{option_copied};
 ghost use Rattle.form_faults.specs.declared.sorts.Naming.TheVariants as naming;
 ghost use Rattle.form_faults.specs.declared.signatures.Signature.{Signature};
 ghost use Rattle.form_faults.specs.Terms.{term_faults};
-ghost use Rattle.form_faults.specs.Operands.{pat_binders};
+ghost use Rattle.form_faults.specs.Operands.{pat_binders, path_faults, proof_faults, supply_faults};
 ghost use Rattle.form_faults.specs.Faults.{least, unless};
 ghost use Rattle.form_faults.specs.Scopes.{unscoped, bind_all, twice_all};
-ghost use Rattle.core_programs.specs.Formed.{nexts, IsNumbered};
+ghost use Rattle.core_programs.specs.Formed.{IsNumbered};
 ghost use Rattle.core_programs.specs.Trees.{tree};
 ghost use Rattle.core_programs.specs.Passes as spec;
 
-use crate::nodes::{Node, Parts};
-use chan_base::Memory;
-use chan_syntax::{Ident, Pat, Proof, Span, Supplies, Term};
+use crate::follows::next_number;
+use crate::nodes::{Arm, Node, Parts};
+use chan_base::{Memory, Span};
+use chan_syntax::{Ident, Pat, Path, Proof, Supplies, Supply, Term};
 use form_faults::{
     Ill, Naming, Scope, Sort, Table, bind_name, bind_pat, check_name, check_path, check_proof,
     check_ref, check_supplies, check_supply, check_term, check_use, note_number,
 };
 use std::alloc::Global;
 
-/// A node whose second body is still to be walked, and how many names are in scope at it.
-#[derive(Clone, Copy, Debug)]
+/// A node whose bodies from a turn on are still to be walked, and how many names are in scope at it.
+#[derive(Clone, Copy)]
 pub(crate) struct Later {
     pub number: u32,
     pub mark: usize,
+    pub turn: usize,
 }
 
 /// No list is so long that there is no number past its length.
@@ -110,6 +113,38 @@ fn check_variable(
     check_name(alloc, first, scope, Naming::Variables, name, span)
 }
 
+/// The faults of a channel and of the way through its protocol.
+fn check_access(
+    alloc: Global,
+    first: &mut Option<Ill>,
+    scope: &Scope,
+    channel: &Ident,
+    channel_span: Span,
+    path: &Path,
+    path_span: Option<Span>,
+    span: Span,
+) -> Result<(), Memory>
+    ensures { OnOk result (first.new ≡ least first.old (unscoped naming.Variables scope.now channel.now channel_span ++ path_faults path.now path_span span)) }
+{
+    check_variable(alloc, first, scope, channel, channel_span)?;
+    check_path(alloc, first, path, path_span, span);
+    Ok(())
+}
+
+/// The faults of a value that is sent or given, and of the proof that it is as it has to be.
+fn check_given(
+    alloc: Global,
+    first: &mut Option<Ill>,
+    scope: &Scope,
+    value: &Supply,
+    proof: &Proof,
+) -> Result<(), Memory>
+    ensures { OnOk result (first.new ≡ least first.old (supply_faults scope.now value.now ++ proof_faults scope.now proof.now)) }
+{
+    check_supply(alloc, first, scope, value)?;
+    check_proof(alloc, first, scope, proof)
+}
+
 /// The faults of what a node names, at a Send1, Recv1, Absurd or Ret.
 fn check_exchange(
     alloc: Global,
@@ -117,47 +152,42 @@ fn check_exchange(
     scope: &Scope,
     node: &Node,
 ) -> Result<(), Memory>
+    requires { spec.is_exchange node.now ≡ true }
     ensures { (protos funcs : List Signature) → OnOk result (first.new ≡ least first.old (spec.operand_faults protos funcs scope.now node.now)) }
 {
     match node {
         Node::Send1 {
             channel,
-            channel_span,
+            channel_span: from,
             path,
-            path_span,
+            path_span: way,
             value,
             proof,
             span,
             ..
         } => {
-            check_variable(alloc, first, scope, channel, *channel_span)?;
-            check_path(alloc, first, path, *path_span, *span);
-            check_supply(alloc, first, scope, value)?;
-            check_proof(alloc, first, scope, proof)
+            check_access(alloc, first, scope, channel, *from, path, *way, *span)?;
+            check_given(alloc, first, scope, value, proof)
         }
         Node::Recv1 {
             channel,
-            channel_span,
+            channel_span: from,
             path,
-            path_span,
+            path_span: way,
             proof,
             span,
             ..
         } => {
-            check_variable(alloc, first, scope, channel, *channel_span)?;
-            check_path(alloc, first, path, *path_span, *span);
+            check_access(alloc, first, scope, channel, *from, path, *way, *span)?;
             check_proof(alloc, first, scope, proof)
         }
         Node::Absurd { proof, .. } => check_proof(alloc, first, scope, proof),
-        Node::Ret { value, proof, .. } => {
-            check_supply(alloc, first, scope, value)?;
-            check_proof(alloc, first, scope, proof)
-        }
-        _ => Err(Memory),
+        Node::Ret { value, proof, .. } => check_given(alloc, first, scope, value, proof),
+        _ => unreachable!(),
     }
 }
 
-/// The faults of what a node names, at a Call, Tail or Fork; the others are handed on.
+/// The faults of what a node names, at a Call, Tail or Fork.
 fn check_called(
     alloc: Global,
     first: &mut Option<Ill>,
@@ -166,6 +196,7 @@ fn check_called(
     scope: &Scope,
     node: &Node,
 ) -> Result<(), Memory>
+    requires { spec.is_call node.now ≡ true }
     ensures { OnOk result (first.new ≡ least first.old (spec.operand_faults protos.now funcs.now scope.now node.now)) }
 {
     match node {
@@ -195,7 +226,7 @@ fn check_called(
             check_ref(alloc, first, protos, scope, proto)?;
             check_call(alloc, first, funcs, scope, func, *at, count, values, proof)
         }
-        _ => check_exchange(alloc, first, scope, node),
+        _ => unreachable!(),
     }
 }
 
@@ -237,7 +268,13 @@ fn check_operands(
             name_span,
             ..
         } => check_variable(alloc, first, scope, name, *name_span),
-        _ => check_called(alloc, first, protos, funcs, scope, node),
+        Node::Call { .. } => check_called(alloc, first, protos, funcs, scope, node),
+        Node::Tail { .. } => check_called(alloc, first, protos, funcs, scope, node),
+        Node::Fork { .. } => check_called(alloc, first, protos, funcs, scope, node),
+        Node::Send1 { .. } => check_exchange(alloc, first, scope, node),
+        Node::Recv1 { .. } => check_exchange(alloc, first, scope, node),
+        Node::Absurd { .. } => check_exchange(alloc, first, scope, node),
+        Node::Ret { .. } => check_exchange(alloc, first, scope, node),
     }
 }
 
@@ -255,15 +292,31 @@ fn bind_two(
     bind_pat(alloc, first, scope, right)
 }
 
-/// Binds the names of a node for the body that comes first.
-fn bind_first(
+fn bind_arm(
+    alloc: Global,
+    first: &mut Option<Ill>,
+    scope: &mut Scope,
+    arm: Option<&Arm>,
+) -> Result<(), Memory>
+    ensures first { OnOk result (first.new ≡ least first.old (twice_all scope.old (spec.arm_binders (option_copied arm.entry)))) }
+    ensures scope { OnOk result (scope.new ≡ bind_all scope.old (spec.arm_binders (option_copied arm.entry))) }
+{
+    match arm {
+        Some(arm) => bind_pat(alloc, first, scope, &arm.pat),
+        None => Ok(()),
+    }
+}
+
+/// Binds the names of a node for the body that comes at a turn.
+fn bind_at(
     alloc: Global,
     first: &mut Option<Ill>,
     scope: &mut Scope,
     node: &Node,
+    turn: usize,
 ) -> Result<(), Memory>
-    ensures first { OnOk result (first.new ≡ least first.old (twice_all scope.old (spec.first_binders node.now))) }
-    ensures scope { OnOk result (scope.new ≡ bind_all scope.old (spec.first_binders node.now)) }
+    ensures first { OnOk result (first.new ≡ least first.old (twice_all scope.old (spec.binders_at node.now turn))) }
+    ensures scope { OnOk result (scope.new ≡ bind_all scope.old (spec.binders_at node.now turn)) }
 {
     match node {
         Node::Let {
@@ -298,70 +351,8 @@ fn bind_first(
             second,
             ..
         } => bind_two(alloc, first, scope, left, second),
-        Node::Match { left, .. } => bind_pat(alloc, first, scope, left),
+        Node::Match { arms, .. } => bind_arm(alloc, first, scope, arms.as_slice().get(turn)),
         _ => Ok(()),
-    }
-}
-
-/// Binds the names of a node for the second body.
-fn bind_second(
-    alloc: Global,
-    first: &mut Option<Ill>,
-    scope: &mut Scope,
-    node: &Node,
-) -> Result<(), Memory>
-    ensures first { OnOk result (first.new ≡ least first.old (twice_all scope.old (spec.second_binders node.now))) }
-    ensures scope { OnOk result (scope.new ≡ bind_all scope.old (spec.second_binders node.now)) }
-{
-    match node {
-        Node::Match { right, .. } => bind_pat(alloc, first, scope, right),
-        _ => Ok(()),
-    }
-}
-
-/// The number of the body that comes first after a node.
-fn first_number(node: &Node) -> Option<u32>
-    ensures { result ≡ slice_get (nexts node.now) 0 }
-{
-    match node {
-        Node::Let { next, .. } => Some(*next),
-        Node::Mul { next, .. } => Some(*next),
-        Node::Div { next, .. } => Some(*next),
-        Node::Rem { next, .. } => Some(*next),
-        Node::Call { next, .. } => Some(*next),
-        Node::Tail { .. } => None,
-        Node::Fork { next, .. } => Some(*next),
-        Node::Send1 { next, .. } => Some(*next),
-        Node::Recv1 { next, .. } => Some(*next),
-        Node::Print { next, .. } => Some(*next),
-        Node::If { yes, .. } => Some(*yes),
-        Node::Split { next, .. } => Some(*next),
-        Node::Match { yes, .. } => Some(*yes),
-        Node::Absurd { .. } => None,
-        Node::Ret { .. } => None,
-    }
-}
-
-/// The number of the second body after a node.
-fn second_number(node: &Node) -> Option<u32>
-    ensures { result ≡ slice_get (nexts node.now) 1 }
-{
-    match node {
-        Node::If { no, .. } => Some(*no),
-        Node::Match { no, .. } => Some(*no),
-        Node::Let { .. } => None,
-        Node::Mul { .. } => None,
-        Node::Div { .. } => None,
-        Node::Rem { .. } => None,
-        Node::Call { .. } => None,
-        Node::Tail { .. } => None,
-        Node::Fork { .. } => None,
-        Node::Send1 { .. } => None,
-        Node::Recv1 { .. } => None,
-        Node::Print { .. } => None,
-        Node::Split { .. } => None,
-        Node::Absurd { .. } => None,
-        Node::Ret { .. } => None,
     }
 }
 
@@ -390,17 +381,25 @@ pub(crate) fn check_body(
                 later.push(Later {
                     number,
                     mark: scope.len(),
+                    turn: 0,
                 })?;
-                bind_first(alloc, first, scope, node)?;
-                at = first_number(node);
+                at = None;
             }
             None => match later.pop() {
                 None => return Ok(()),
                 Some(next) => {
                     let node = &nodes[next.number as usize];
                     scope.cut(next.mark);
-                    bind_second(alloc, first, scope, node)?;
-                    at = second_number(node);
+                    if let Some(number) = next_number(node, next.turn) {
+                        let turn = one_more(next.turn)?;
+                        later.push(Later {
+                            number: next.number,
+                            mark: next.mark,
+                            turn,
+                        })?;
+                        bind_at(alloc, first, scope, node, next.turn)?;
+                        at = Some(number);
+                    }
                 }
             },
         }

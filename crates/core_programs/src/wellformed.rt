@@ -2,9 +2,10 @@
 ghost use Rattle.std.specs.Prelude.{◌≡◌, ◌<◌, codes, length, slice_get, Some, IfSome, IfOk, IfErr};
 ghost use Rattle.std.specs.Option.{option_copied};
 ghost use Rattle.core_language.specs.Configurations.{names};
-ghost use Rattle.core_programs.specs.Bodies.{opened, rest, func_named};
+ghost use Rattle.core_programs.specs.Bodies.{LeadsToFirst, opened, rest, func_named};
 ghost use Rattle.core_programs.specs.Formed.{IsNumbered, HasDivisor, LeadBelow};
 ghost use Rattle.core_programs.specs.Form.{IsFormed, IsBuildFault, HasForm};
+ghost use Rattle.core_programs.specs.Uses.{LeadsToUses, AreStarts};
 
 use crate::faults::BuildFault;
 use crate::forms::first_fault;
@@ -12,8 +13,10 @@ use crate::indexes::{find_indexed, index_funcs};
 use crate::naming::has_use;
 use crate::nodes::{Func, Node, Parts};
 use crate::starts::find_starts;
-use crate::uses::{Uses, has_between, index_uses, uses_of};
+use crate::uses::index_uses;
+use chan_base::Memory;
 use chan_syntax::Ident;
+use name_uses::{Uses, has_between, uses_of};
 use std::alloc::Global;
 use std::collections::BTreeMap;
 use std::marker::Model;
@@ -54,9 +57,7 @@ impl Program {
         match first_fault(alloc, &parts)? {
             Some(ill) => Err(BuildFault::Ill(ill)),
             None => {
-                let places = index_funcs(alloc, parts.funcs.as_slice())?;
-                let uses = index_uses(alloc, parts.nodes.as_slice())?;
-                let starts = find_starts(alloc, parts.nodes.as_slice())?;
+                let (places, uses, starts) = indexes(alloc, &parts)?;
                 Ok(Program {
                     parts,
                     places,
@@ -119,6 +120,22 @@ impl Program {
         let parts = self.parts();
         find_func(parts.funcs.as_slice(), b"main")
     }
+}
+
+/// Where the functions stand, which nodes mention each name, and where bodies begin.
+fn indexes(
+    alloc: Global,
+    parts: &Parts,
+) -> Result<(BTreeMap<Ident, usize>, Uses, Option<Vec<u32>>), Memory>
+    requires { IsNumbered parts.now }
+    ensures places { IfOk result (λ x. LeadsToFirst parts.now.funcs x.0) }
+    ensures uses { IfOk result (λ x. LeadsToUses parts.now.nodes x.1) }
+    ensures starts { IfOk result (λ x. AreStarts parts.now.nodes x.2) }
+{
+    let places = index_funcs(alloc, parts.funcs.as_slice())?;
+    let uses = index_uses(alloc, parts.nodes.as_slice())?;
+    let starts = find_starts(alloc, parts.nodes.as_slice())?;
+    Ok((places, uses, starts))
 }
 
 /// The first of the functions with this name.

@@ -2,7 +2,7 @@
 use Rattle.std.proofs.Common.{ℕ, zero, suc, Bool, true, false, ◌&&◌, ◌||◌, not, nat_eq, nat_le, nat_lt, is_some, if◌then◌else◌, List, [], ◌∷◌, ◌++◌, length, map, Option, Some, None, unwrap_or, slice_get, ◌⊎◌, inl, inr, refl, sym, ap, subst}
 use Rattle.std.specs.List.{list_any}
 use Rattle.core_language.specs.Names.{Ident}
-use Rattle.chan_syntax.specs.declared.identifiers.Span.{Span}
+use Rattle.chan_base.specs.declared.spans.Span.{Span}
 use Rattle.chan_syntax.specs.declared.linear.Part.{Part}
 use Rattle.chan_syntax.specs.declared.linear.Term.{Term}
 use Rattle.chan_syntax.specs.declared.linear.Limit.{Limit}
@@ -14,7 +14,7 @@ use Rattle.chan_syntax.specs.declared.resources.Param.{Param}
 use Rattle.chan_syntax.specs.declared.resources.Equation.{Equation}
 use Rattle.chan_syntax.specs.declared.resources.Equation.TheVariants as equation
 use Rattle.chan_syntax.specs.declared.resources.Proto.{Proto}
-use Rattle.chan_syntax.specs.declared.operands.Supply.{Supply, Unit as NoSupply, Pair' as SupplyPair', Left', Right', Sum, Row_of-Supply, end_of-Supply, more_of-Supply}
+use Rattle.chan_syntax.specs.declared.operands.Supply.{Supply, Unit as NoSupply, Pair' as SupplyPair', Arm', Sum, Row_of-Supply, end_of-Supply, more_of-Supply}
 use Rattle.chan_syntax.specs.declared.operands.Pat.{Pat}
 use Rattle.chan_syntax.specs.declared.operands.Letter.{Letter}
 use Rattle.chan_syntax.specs.declared.operands.WrittenMention.{WrittenMention}
@@ -30,19 +30,20 @@ use Rattle.form_faults.specs.declared.sorts.Known.{Known}
 use Rattle.form_faults.specs.declared.signatures.Signature.{Signature}
 use Rattle.form_faults.specs.Faults.{at_span, at_element, past, unless, IsFirst}
 use Rattle.form_faults.specs.Scopes.{sort_of, is_usable, unscoped, Binder, twice, bind, bind_all, twice_all, binders, most_of, names_past}
-use Rattle.form_faults.specs.Numbers.{is_narrow, is_narrow_limit}
+use Rattle.narrow_terms.specs.Numbers.{is_narrow, is_narrow_limit}
 use Rattle.form_faults.specs.Terms.{name_faults as names_in_parts, part_faults, parts_faults, term_faults, terms_faults, fixed_term_faults, fixed_terms_faults, limit_faults, limits_faults, limits_past, bound_binders, bound_scope, bound_faults, count_of, counted, use_faults, fixed_ref_faults, ref_faults}
-use Rattle.form_faults.specs.Resources.{shape_faults, res_in_faults, res_faults, unless_shallow, are_shallow, is_shallow, next_faults, message_faults, branch_faults, equation_faults, proto_binders, proto_faults, params_are_shallow, param_faults, params_faults, params_past, header_faults}
+use Rattle.form_faults.specs.Resources.{shape_faults, res_in_faults, row_faults, res_faults, unless_shallow, are_shallow, is_shallow, next_faults, message_faults, branch_faults, equation_faults, proto_binders, proto_faults, params_are_shallow, param_faults, params_faults, params_past, header_faults}
 use Rattle.form_faults.specs.Operands.{supply_faults, supply_in_faults, supplies_faults, greatest, divisor_faults, mention_faults, mentions_faults, mentions_past, cert_faults, certs_faults, proof_faults, path_faults, pat_binders}
 use Rattle.core_programs.specs.declared.nodes.Node.{Node}
 use Rattle.core_programs.specs.declared.nodes.Node.TheVariants as node
+use Rattle.core_programs.specs.declared.nodes.Arm.{Arm}
 use Rattle.core_programs.specs.declared.nodes.Func.{Func}
 use Rattle.core_programs.specs.declared.nodes.Parts.{Parts}
-use Rattle.core_programs.specs.Trees.{Tree, Nothing, Grown, tree}
-use Rattle.core_programs.specs.Passes.{proto_names, func_names, twice_faults, call_faults, operand_faults, first_binders, second_binders, body_faults, func_faults, funcs_faults, protos_faults, name_faults, count_faults, is_main, no_main, main_faults}
+use Rattle.core_programs.specs.Trees.{Tree, Nothing, Grown, Trees, NoMore, More, tree}
+use Rattle.core_programs.specs.Passes.{proto_names, func_names, twice_faults, call_faults, operand_faults, arm_binders, binders_at as node_binders, body_faults, bodies_faults, func_faults, funcs_faults, protos_faults, name_faults, count_faults, is_main, no_main, main_faults}
 use Rattle.core_programs.specs.Form.{IsUnguarded, IsFault}
-use Rattle.fault_places.specs.Spans.{Every, OfAny, OfNames, InPart, InTerm, InLimit, InBound, InRef, InShape, InBoxedRes, InRes, InParam, InNext, InEquation, InSupply, InBoxedSupply, InPat, InMention, InCert, InProof}
-use Rattle.fault_places.specs.Programs.{InProto, InNode, InTree, InFunc, InParts}
+use Rattle.fault_places.specs.Spans.{Every, OfAny, OfNames, InPart, InTerm, InLimit, InBound, InRef, InShape, InBoxedRes, InResources, InRes, InParam, InNext, InEquation, InSupply, InBoxedSupply, InPat, InMention, InCert, InProof}
+use Rattle.fault_places.specs.Programs.{InProto, InArmOf, InNode, InTree, InTrees, InFunc, InParts}
 use Rattle.fault_places.specs.Laws.{TellsNoMain}
 use Rattle.fault_places.proofs.Lists.{every_append, every_map, every_to, every_middle, every_get}
 
@@ -193,18 +194,23 @@ module _ (P : Span → Type 0) where
   -- ---- resources
 
   mutual
-    unfolding shape_faults res_in_faults
+    unfolding shape_faults res_in_faults row_faults
 
     shape_stand : (protos : List Signature) (scope : List Known) (shape : Shape) → InShape P shape → Stand P (shape_faults protos scope shape)
     shape_stand protos scope NoShape p = none
     shape_stand protos scope (Int term) p = fixed_term_stand scope term p
     shape_stand protos scope (End ref) p = fixed_ref_stand protos scope ref p
     shape_stand protos scope (Pair' _ first _ second) p = both (res_in_stand protos scope first p.0) (res_in_stand protos scope second p.1)
-    shape_stand protos scope (Sum' _ left _ right) p = both (res_in_stand protos scope left p.0) (res_in_stand protos scope right p.1)
+    shape_stand protos scope (Sum' _ arms) p = row_stand protos scope arms p
 
     res_in_stand : {m : _} (protos : List Signature) (scope : List Known) (row : Row_of-Res m) → InBoxedRes P row → Stand P (res_in_faults protos scope row)
     res_in_stand protos scope end_of-Res p = none
     res_in_stand protos scope (more_of-Res bound shape rest) p = both (bound_stand scope bound p.0) (shape_stand protos (bound_scope scope bound) shape p.1)
+
+    row_stand : {m : _} (protos : List Signature) (scope : List Known) (row : Row_of-Res m) → InResources P row → Stand P (row_faults protos scope row)
+    row_stand protos scope end_of-Res p = none
+    row_stand protos scope (more_of-Res bound shape rest) p =
+        both (both (bound_stand scope bound p.0.0) (shape_stand protos (bound_scope scope bound) shape p.0.1)) (row_stand protos scope rest p.1)
 
   res_stand : (protos : List Signature) (scope : List Known) (res : Res) → InRes P res → Stand P (res_faults protos scope res)
   unfolding res_faults
@@ -273,8 +279,7 @@ module _ (P : Span → Type 0) where
     supply_stand : (scope : List Known) (value : Supply) → InSupply P value → Stand P (supply_faults scope value)
     supply_stand _ NoSupply p = none
     supply_stand _ (SupplyPair' _ first _ second) p = both (supply_in_stand _ first p.0) (supply_in_stand _ second p.1)
-    supply_stand _ (Left' _ value) p = supply_in_stand _ value p
-    supply_stand _ (Right' _ value) p = supply_in_stand _ value p
+    supply_stand _ (Arm' _ _ value) p = supply_in_stand _ value p
     supply_stand _ (Sum term) p = term_stand _ _ term p
 
     supply_in_stand : {m : _} (scope : List Known) (row : Row_of-Supply m) → InBoxedSupply P row → Stand P (supply_in_faults scope row)
@@ -350,54 +355,46 @@ module _ (P : Span → Type 0) where
   operands_stand _ _ _ (node.Print term _ _) p = term_stand _ _ term p.0
   operands_stand _ _ _ (node.If left right _ _ _) p = both (term_stand _ _ left p.0) (term_stand _ _ right p.1)
   operands_stand _ _ _ (node.Split _ _ name name_at _ _) p = unscoped_stand _ _ name name_at p.2
-  operands_stand _ _ _ (node.Match name name_at _ _ _ _ _) p = unscoped_stand _ _ name name_at p.0
+  operands_stand _ _ _ (node.Match name name_at _ _) p = unscoped_stand _ _ name name_at p.0
   operands_stand _ _ _ (node.Absurd proof _) p = proof_stand _ proof p.0
   operands_stand _ _ _ (node.Ret value proof _) p = both (supply_stand _ value p.0) (proof_stand _ proof p.1)
 
-  first_at : (x : Node) → InNode P x → AtBinders (first_binders x)
-  unfolding first_binders
-  first_at (node.Let _ _ _ _ _) p = (p.0, tt)
-  first_at (node.Mul _ _ _ _ _ _) p = (p.0, tt)
-  first_at (node.Div _ _ _ _ _ _ _) p = (p.0, tt)
-  first_at (node.Rem _ _ _ _ _ _ _) p = (p.0, tt)
-  first_at (node.Call pat _ _ _ _ _ _) p = pat_binders_at pat p.0
-  first_at (node.Tail _ _ _ _ _) p = tt
-  first_at (node.Fork _ _ _ _ _ _ _ _ _) p = (p.0, tt)
-  first_at (node.Send1 _ _ _ _ _ _ _ _) p = tt
-  first_at (node.Recv1 pat _ _ _ _ _ _ _) p = pat_binders_at pat p.0
-  first_at (node.Print _ _ _) p = tt
-  first_at (node.If _ _ _ _ _) p = tt
-  first_at (node.Split first second _ _ _ _) p = every_append (λ (b : Binder). P b.span) (pat_binders first) (pat_binders second) (pat_binders_at first p.0) (pat_binders_at second p.1)
-  first_at (node.Match _ _ left _ _ _ _) p = pat_binders_at left p.1
-  first_at (node.Absurd _ _) p = tt
-  first_at (node.Ret _ _ _) p = tt
+  arms_at : (arms : List Arm) (turn : ℕ) → Every (InArmOf P) arms → AtBinders (arm_binders (slice_get arms turn))
+  arms_at [] turn p = tt
+  arms_at (a ∷ arms) zero p = pat_binders_at a.pat p.0
+  arms_at (a ∷ arms) (suc turn) p = arms_at arms turn p.1
 
-  second_at : (x : Node) → InNode P x → AtBinders (second_binders x)
-  unfolding second_binders
-  second_at (node.Let _ _ _ _ _) p = tt
-  second_at (node.Mul _ _ _ _ _ _) p = tt
-  second_at (node.Div _ _ _ _ _ _ _) p = tt
-  second_at (node.Rem _ _ _ _ _ _ _) p = tt
-  second_at (node.Call _ _ _ _ _ _ _) p = tt
-  second_at (node.Tail _ _ _ _ _) p = tt
-  second_at (node.Fork _ _ _ _ _ _ _ _ _) p = tt
-  second_at (node.Send1 _ _ _ _ _ _ _ _) p = tt
-  second_at (node.Recv1 _ _ _ _ _ _ _ _) p = tt
-  second_at (node.Print _ _ _) p = tt
-  second_at (node.If _ _ _ _ _) p = tt
-  second_at (node.Split _ _ _ _ _ _) p = tt
-  second_at (node.Match _ _ _ _ right _ _) p = pat_binders_at right p.2
-  second_at (node.Absurd _ _) p = tt
-  second_at (node.Ret _ _ _) p = tt
+  node_at : (x : Node) (turn : ℕ) → InNode P x → AtBinders (node_binders x turn)
+  unfolding node_binders
+  node_at (node.Let _ _ _ _ _) turn p = (p.0, tt)
+  node_at (node.Mul _ _ _ _ _ _) turn p = (p.0, tt)
+  node_at (node.Div _ _ _ _ _ _ _) turn p = (p.0, tt)
+  node_at (node.Rem _ _ _ _ _ _ _) turn p = (p.0, tt)
+  node_at (node.Call pat _ _ _ _ _ _) turn p = pat_binders_at pat p.0
+  node_at (node.Tail _ _ _ _ _) turn p = tt
+  node_at (node.Fork _ _ _ _ _ _ _ _ _) turn p = (p.0, tt)
+  node_at (node.Send1 _ _ _ _ _ _ _ _) turn p = tt
+  node_at (node.Recv1 pat _ _ _ _ _ _ _) turn p = pat_binders_at pat p.0
+  node_at (node.Print _ _ _) turn p = tt
+  node_at (node.If _ _ _ _ _) turn p = tt
+  node_at (node.Split first second _ _ _ _) turn p = every_append (λ (b : Binder). P b.span) (pat_binders first) (pat_binders second) (pat_binders_at first p.0) (pat_binders_at second p.1)
+  node_at (node.Match _ _ arms _) turn p = arms_at arms turn p.1
+  node_at (node.Absurd _ _) turn p = tt
+  node_at (node.Ret _ _ _) turn p = tt
 
-  body_stand : (protos funcs : List Signature) (scope : List Known) (t : Tree) → InTree P t → Stand P (body_faults protos funcs scope t)
-  unfolding body_faults
-  body_stand protos funcs scope Nothing p = none
-  body_stand protos funcs scope (Grown x first second) p =
-      both (operands_stand protos funcs scope x p.0)
-      (both
-      (both (twice_all_stand scope (first_binders x) (first_at x p.0)) (body_stand protos funcs (bind_all scope (first_binders x)) first p.1))
-      (both (twice_all_stand scope (second_binders x) (second_at x p.0)) (body_stand protos funcs (bind_all scope (second_binders x)) second p.2)))
+  mutual
+    unfolding body_faults bodies_faults
+
+    body_stand : (protos funcs : List Signature) (scope : List Known) (t : Tree) → InTree P t → Stand P (body_faults protos funcs scope t)
+    body_stand protos funcs scope Nothing p = none
+    body_stand protos funcs scope (Grown x bodies) p = both (operands_stand protos funcs scope x p.0) (bodies_stand protos funcs scope x 0 bodies p.0 p.1)
+
+    bodies_stand : (protos funcs : List Signature) (scope : List Known) (x : Node) (turn : ℕ) (ts : Trees) → InNode P x → InTrees P ts → Stand P (bodies_faults protos funcs scope x turn ts)
+    bodies_stand protos funcs scope x turn NoMore at p = none
+    bodies_stand protos funcs scope x turn (More body bodies) at p =
+        both
+        (both (twice_all_stand scope (node_binders x turn) (node_at x turn at)) (body_stand protos funcs (bind_all scope (node_binders x turn)) body p.0))
+        (bodies_stand protos funcs scope x (suc turn) bodies at p.1)
 
   -- ---- protocols and functions
 

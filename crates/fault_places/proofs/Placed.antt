@@ -1,13 +1,13 @@
 -- Trees whose spans stand where their tokens do: how this passes from the parts of a grammar to the whole.
 use Rattle.std.proofs.Common.{◌≡◌, ℕ, zero, suc, ◌-◌, ◌<◌, ◌≤◌, inl, inr, Bool, List, [], ◌∷◌, ◌++◌, length, Some, slice_get, refl, sym, subst, arith}
-use Rattle.chan_syntax.specs.declared.identifiers.Span.{Span}
+use Rattle.chan_base.specs.declared.spans.Span.{Span}
 use Rattle.text_tokens.specs.Text.{Token}
 use Rattle.grammar_laws.specs.Grammar as g
 use Rattle.grammar_laws.specs.Grammar.{Reading, Each, Derives, Below, Named}
 use Rattle.surface_grammar.specs.declared.words.Word.{Word}
 use Rattle.surface_grammar.specs.declared.words.Word.TheVariants as w
 use Rattle.surface_grammar.specs.Words.{code}
-use Rattle.surface_grammar.specs.Grammar.{G, Rule, AValue, ARes, ABlock, TreeOf, span_from, cover, word, ◌▷◌, ◌◁◌, ◌⇒◌, repeated, listed, closed}
+use Rattle.surface_grammar.specs.Grammar.{G, Rule, AValue, ARes, ABlock, TreeOf, span_from, cover, word, ◌▷◌, ◌◁◌, ◌⇒◌, repeated, up_to, listed, closed}
 use Rattle.surface_grammar.specs.Language.{body}
 use Rattle.fault_places.specs.Spans.{Every, InRes, InSupply}
 use Rattle.fault_places.specs.SurfaceTrees.{InBlock}
@@ -231,6 +231,11 @@ placed_commas k = placed_many (placed_behind w.Comma k)
 
 pub placed_listed : {A : Type 0} {item : G A} {E : SpanFact A} → Placed item E → Placed (listed item) (EveryOf E)
 placed_listed k = placed_seq k (placed_commas k) (λ P x xs p ps. (p, ps))
+
+-- at most so many items
+pub placed_up_to : {A : Type 0} {item : G A} {E : SpanFact A} (n : ℕ) (vs : List Word) → Placed item E → Placed (up_to n vs item) (EveryOf E)
+placed_up_to zero vs k = placed_pure (λ P. tt)
+placed_up_to (suc n) vs k = placed_either (placed_seq k (placed_up_to n vs k) (λ P x xs p q. (p, q))) (placed_pure (λ P. tt))
 
 -- items, if any, and the word that closes them
 pub placed_closed : {A : Type 0} (v : Word) {items : G (List A)} {E : SpanFact A} → Placed items (EveryOf E) → Placed (closed v items) (EveryOf E)

@@ -2,7 +2,7 @@
 use Rattle.std.proofs.Common.{List, [], ◌∷◌, map}
 use denote.Hole.Carrier.{hidden}
 use mathlib.Core.Former.{this, list_count, list_put}
-use Rattle.chan_syntax.specs.declared.identifiers.Span.{Span}
+use Rattle.chan_base.specs.declared.spans.Span.{Span}
 use Rattle.chan_syntax.specs.declared.resources.Ref.{Ref}
 use Rattle.chan_syntax.specs.declared.operands.Pat.{Pat}
 use Rattle.chan_syntax.specs.declared.surface_tree.Stmt.{Stmt, Row_of-Stmt}
@@ -28,12 +28,12 @@ use Rattle.surface_grammar.specs.declared.parts.PairGiven.TheVariants as p
 use Rattle.surface_grammar.specs.declared.parts.Binding.{Binding}
 use Rattle.surface_grammar.specs.declared.parts.Binding.TheVariants as b
 use Rattle.surface_grammar.specs.Grammar.{ABlock}
-use Rattle.surface_grammar.specs.Statements.{access, target, call, start, more_starts, starts, task_params, task, forked, tail, named_given, given_name, given_term, given_target, given_end, given, given_to_pattern, behind_name, let_fork, let_given, two_pats, given_to_pair, behind_pats, let_pair, binding, let_of, let_stmt}
+use Rattle.surface_grammar.specs.Statements.{access, target, call, start, more_starts, starts, task_params, task, forked, tail, named_given, given_name, given_term, numbered_choice, given_target, given_end, given, given_to_pattern, behind_name, let_fork, let_given, two_pats, given_to_pair, behind_pats, let_pair, binding, let_of, let_stmt}
 use Rattle.fault_places.specs.Spans.{Every, OfAny, InPart, InTerm, InBound, InRef, InParam, InSupply, InPat, InProof}
 use Rattle.fault_places.specs.SurfaceTrees.{InStart, InStmt, InRow, InBlock}
 use Rattle.fault_places.proofs.Placed.{SpanFact, Placed, begun_left, word_begun, placed_seq, placed_either, placed_call, placed_spanned, placed_nest, EveryOf, Both, placed_map, placed_behind, placed_before, placed_two, placed_commas, placed_listed}
 use Rattle.fault_places.proofs.PlacedTerms.{InNames, name_placed, name_begun, more_parts_placed, number_term_placed, two_terms_placed, term_and_number_placed, bound_placed, reference_placed, shape_placed, param_placed}
-use Rattle.fault_places.proofs.PlacedOperands.{value_placed, given_values_placed, bracketed_placed, pat_placed, route_placed, proof_placed}
+use Rattle.fault_places.proofs.PlacedOperands.{arm_number_placed, value_placed, given_values_placed, bracketed_placed, pat_placed, route_placed, proof_placed}
 
 -- ---- what several statements have
 
@@ -115,8 +115,7 @@ InGiven P (v.Call c) = InCalled P c
 InGiven P (v.Fork r x) = InRef P r × InForked P x
 InGiven P (v.Recv1 a) = InAccess P a
 InGiven P (v.Send a x q) = InTarget P a × InSupply P x × InProof P q
-InGiven P (v.Left a q) = InTarget P a × InProof P q
-InGiven P (v.Right a q) = InTarget P a × InProof P q
+InGiven P (v.Choose i a q) = InTarget P a × InProof P q
 
 in_named_given : (P : Span → Type 0) (n : Named) (x : Tail) (span : Span) → P n.span → InTail P x → P span → InGiven P (named_given n x span)
 in_named_given P n (t.Values vs q) span p x r = (p, x.0, x.1)
@@ -130,12 +129,17 @@ given_term_placed : Placed given_term InGiven
 unfolding given_term
 given_term_placed = placed_either given_name_placed (placed_map number_term_placed (λ P x p. p))
 
+numbered_choice_placed : Placed numbered_choice InGiven
+unfolding numbered_choice
+numbered_choice_placed = placed_seq arm_number_placed (placed_two target_placed proof_placed) (λ P i x p q. q)
+
 given_target_placed : Placed given_target InGiven
 unfolding given_target
 given_target_placed =
     placed_either (placed_behind w.Send (placed_seq target_placed (placed_two value_placed proof_placed) (λ P a x p q. (p, q.0, q.1))))
     (placed_either (placed_behind w.Left (placed_seq target_placed proof_placed (λ P a x p q. (p, q))))
-    (placed_either (placed_behind w.Right (placed_seq target_placed proof_placed (λ P a x p q. (p, q)))) given_term_placed))
+    (placed_either (placed_behind w.Right (placed_seq target_placed proof_placed (λ P a x p q. (p, q))))
+    (placed_either (placed_behind w.Hash numbered_choice_placed) given_term_placed)))
 
 given_end_placed : Placed given_end InGiven
 unfolding given_end
@@ -221,8 +225,7 @@ in_let_given P n ns (v.Call c) span p q y at = ((p, q), y.0, y.1, y.2, at)
 in_let_given P n ns (v.Fork r x) span p q y at = in_let_fork P n r x span p y.0 y.1 at
 in_let_given P n ns (v.Recv1 a) span p q y at = ((p, q), y.0, y.1, y.2, at)
 in_let_given P n ns (v.Send a x c) span p q y at = (p, y.0.0, y.0.1, y.0.2, y.1, y.2, at)
-in_let_given P n ns (v.Left a c) span p q y at = (p, y.0.0, y.0.1, y.0.2, y.1, at)
-in_let_given P n ns (v.Right a c) span p q y at = (p, y.0.0, y.0.1, y.0.2, y.1, at)
+in_let_given P n ns (v.Choose i a c) span p q y at = (p, y.0.0, y.0.1, y.0.2, y.1, at)
 
 in_let_pair : (P : Span → Type 0) (x y : Pat) (given : PairGiven) (span : Span) → InPat P x → InPat P y → InPairGiven P given → P span → InStmt P (let_pair x y given span)
 in_let_pair P x y (p.Recv ns a) span q r z at = (q, r, z.0, z.1.0, z.1.1, z.1.2, at)

@@ -1,7 +1,7 @@
 -- The spans in values, patterns, paths and proofs stand where their tokens do.
 use Rattle.std.proofs.Common.{◌≡◌, ℕ, List, ◌++◌, Option, Some, None, sym, ap, subst, arith}
 use denote.Hole.Carrier.{hidden}
-use Rattle.chan_syntax.specs.declared.identifiers.Span.{Span}
+use Rattle.chan_base.specs.declared.spans.Span.{Span}
 use Rattle.chan_syntax.specs.declared.operands.Supply.TheBlock.{hidden-the_row-Supply-0}
 use Rattle.chan_syntax.specs.declared.operands.Supply.{Supply}
 use Rattle.chan_syntax.specs.declared.operands.Supply.TheVariants as v
@@ -13,10 +13,10 @@ use Rattle.surface_grammar.specs.declared.parts.Route.{Route}
 use Rattle.surface_grammar.specs.declared.parts.CertParts.{CertParts}
 use Rattle.surface_grammar.specs.declared.parts.BehindNumber.{BehindNumber}
 use Rattle.surface_grammar.specs.declared.parts.BehindNumber.TheVariants as b
-use Rattle.surface_grammar.specs.Grammar.{AValue, number, letters}
-use Rattle.surface_grammar.specs.Operands.{pair, parenthesized, value, values, given_values, bracketed, names_if_any, pat, route, ratio, minus_mention, plain_mention, mention, mentions, more_mentions, mentions_to_brace, behind_number, span_to, numbered, minus_mentions, cert_parts, cert_with, cert, certs, bracketed_terms, bracketed_certs, instances, certificates, proof}
+use Rattle.surface_grammar.specs.Grammar.{AValue, number, arm_number, letters}
+use Rattle.surface_grammar.specs.Operands.{pair, parenthesized, numbered_value, value, values, given_values, bracketed, names_if_any, pat, route, ratio, minus_mention, plain_mention, mention, mentions, more_mentions, mentions_to_brace, behind_number, span_to, numbered, minus_mentions, cert_parts, cert_with, cert, certs, bracketed_terms, bracketed_certs, instances, certificates, proof}
 use Rattle.fault_places.specs.Spans.{Every, OfAny, InTerm, InSupply, InPat, InMention, InCert, InProof}
-use Rattle.fault_places.proofs.Placed.{From, HoldsFrom, Row, row_back, SpanFact, Placed, begun_one, begun_left, begun_nest, word_begun, placed_pure, placed_one, placed_seq, placed_either, placed_call, placed_spanned, placed_nest, EveryOf, Both, word_placed, placed_map, placed_behind, placed_before, placed_two, placed_commas, placed_listed, placed_closed}
+use Rattle.fault_places.proofs.Placed.{From, HoldsFrom, Row, row_back, SpanFact, Placed, begun_one, begun_left, begun_nest, word_begun, placed_pure, placed_one, placed_seq, placed_either, placed_call, placed_spanned, placed_nest, EveryOf, NoSpan, Both, word_placed, placed_map, placed_behind, placed_before, placed_two, placed_commas, placed_listed, placed_closed}
 use Rattle.fault_places.proofs.PlacedTerms.{InNames, InDigits, name_placed, number_placed, names_placed, term_placed, terms_placed}
 
 -- ---- values
@@ -25,13 +25,9 @@ in_pair : (P : Span → Type 0) (a b : Supply) → InSupply P a → InSupply P b
 unfolding hidden hidden-the_row-Supply-0
 in_pair P a b p q = (p, q)
 
-in_left : (P : Span → Type 0) (a : Supply) → InSupply P a → InSupply P (v.Left a)
+in_arm : (P : Span → Type 0) (i : ℕ) (a : Supply) → InSupply P a → InSupply P (v.Arm i a)
 unfolding hidden hidden-the_row-Supply-0
-in_left P a p = p
-
-in_right : (P : Span → Type 0) (a : Supply) → InSupply P a → InSupply P (v.Right a)
-unfolding hidden hidden-the_row-Supply-0
-in_right P a p = p
+in_arm P i a p = p
 
 one_value_placed : Placed (g.call AValue (λ x. x)) InSupply
 one_value_placed = placed_call (λ P x p. p)
@@ -44,11 +40,20 @@ parenthesized_placed : Placed parenthesized InSupply
 unfolding parenthesized
 parenthesized_placed = placed_either (placed_map (word_placed w.RightParen) (λ P x p. tt)) pair_placed
 
+pub arm_number_placed : Placed arm_number NoSpan
+unfolding arm_number
+arm_number_placed = placed_one (λ P t p. tt)
+
+numbered_value_placed : Placed numbered_value InSupply
+unfolding numbered_value
+numbered_value_placed = placed_seq arm_number_placed one_value_placed (λ P i a p q. in_arm P i a q)
+
 pub value_placed : Placed value InSupply
 unfolding value
 value_placed =
     placed_either (placed_nest parenthesized_placed)
-    (placed_either (placed_nest (placed_call in_left)) (placed_either (placed_nest (placed_call in_right)) (placed_map term_placed (λ P t p. p))))
+    (placed_either (placed_nest (placed_call (λ P. in_arm P 0)))
+    (placed_either (placed_nest (placed_call (λ P. in_arm P 1))) (placed_either (placed_nest numbered_value_placed) (placed_map term_placed (λ P t p. p)))))
 
 values_placed : Placed values (EveryOf InSupply)
 unfolding values

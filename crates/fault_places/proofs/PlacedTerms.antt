@@ -1,8 +1,10 @@
 -- The spans in terms, binders, references and resources stand where their tokens do.
 use Rattle.std.proofs.Common.{ℕ, List, [], ◌∷◌, map, Option, Some, None}
 use denote.Hole.Carrier.{hidden}
-use Rattle.chan_syntax.specs.declared.identifiers.Span.{Span}
-use Rattle.chan_syntax.specs.declared.resources.Shape.TheBlock.{hidden-the_row-Res-0}
+use Rattle.chan_base.specs.declared.spans.Span.{Span}
+use mathlib.Core.Former.{this, list_count, list_put}
+use mathlib.Core.List.{map as shape_map}
+use Rattle.chan_syntax.specs.declared.resources.Shape.TheBlock.{hidden-the_row-Res-0, hidden-the_row-Res-1, back-the_row-Res}
 use Rattle.chan_syntax.specs.declared.resources.Shape.TheVariants as s
 use Rattle.chan_syntax.specs.declared.resources.Res.{Res}
 use Rattle.grammar_laws.specs.Grammar as g
@@ -10,10 +12,10 @@ use Rattle.surface_grammar.specs.declared.words.Word.TheVariants as w
 use Rattle.surface_grammar.specs.declared.parts.Named.{Named}
 use Rattle.surface_grammar.specs.declared.parts.Names.{Names}
 use Rattle.surface_grammar.specs.declared.parts.Digits.{Digits}
-use Rattle.surface_grammar.specs.Grammar.{ARes, name, number, names}
-use Rattle.surface_grammar.specs.Terms.{part_of, times, number_prod, prod, minus_prod, first_part, next_part, more_parts, term, number_part, number_term, terms, one_term, two_terms, term_and_number, relation, limit, limits, limits_to_bracket, binds, bound, dual, args, reference, two_res, shape, res, param}
-use Rattle.fault_places.specs.Spans.{Every, OfNames, InPart, InTerm, InLimit, InBound, InRef, InShape, InRes, InParam}
-use Rattle.fault_places.proofs.Placed.{SpanFact, Placed, Begun, begun_one, begun_left, begun_right, begun_either, word_begun, placed_pure, placed_one, placed_seq, placed_either, placed_call, placed_spanned, placed_nest, EveryOf, NoSpan, Both, word_placed, placed_map, placed_behind, placed_before, placed_two, placed_many, placed_listed, placed_closed}
+use Rattle.surface_grammar.specs.Grammar.{ARes, more_arms_than_two, name, number, names}
+use Rattle.surface_grammar.specs.Terms.{part_of, times, number_prod, prod, minus_prod, first_part, next_part, more_parts, term, number_part, number_term, terms, one_term, two_terms, term_and_number, relation, limit, limits, limits_to_bracket, binds, bound, dual, args, reference, two_res, next_res, more_res, sum_res, shape, res, param}
+use Rattle.fault_places.specs.Spans.{Every, OfNames, InPart, InTerm, InLimit, InBound, InRef, InShape, InResources, InRes, InParam}
+use Rattle.fault_places.proofs.Placed.{SpanFact, Placed, Begun, begun_one, begun_left, begun_right, begun_either, word_begun, placed_pure, placed_one, placed_seq, placed_either, placed_call, placed_spanned, placed_nest, EveryOf, NoSpan, Both, word_placed, placed_map, placed_behind, placed_before, placed_two, placed_many, placed_up_to, placed_listed, placed_closed}
 
 -- ---- names and numbers
 
@@ -185,9 +187,13 @@ in_pair : (P : Span → Type 0) (a b : Res) → InRes P a → InRes P b → InSh
 unfolding hidden hidden-the_row-Res-0
 in_pair P a b p q = (p, q)
 
-in_sum : (P : Span → Type 0) (a b : Res) → InRes P a → InRes P b → InShape P (s.Sum a b)
-unfolding hidden hidden-the_row-Res-0
-in_sum P a b p q = (p, q)
+in_rows : (P : Span → Type 0) (rs : List Res) → Every (InRes P) rs → InResources P (back-the_row-Res (list_count (this {0}) (shape_map ((this {0}).shape Res) rs) 0) (list_put (this {0}) Res rs 0 (tt {0})))
+in_rows P [] p = tt
+in_rows P (r ∷ rs) p = (p.0, in_rows P rs p.1)
+
+in_sum : (P : Span → Type 0) (rs : List Res) → Every (InRes P) rs → InShape P (s.Sum rs)
+unfolding hidden hidden-the_row-Res-1
+in_sum P rs p = in_rows P rs p
 
 one_res_placed : Placed (g.call ARes (λ a. a)) InRes
 one_res_placed = placed_call (λ P r p. p)
@@ -196,13 +202,26 @@ two_res_placed : Placed two_res (Both InRes InRes)
 unfolding two_res
 two_res_placed = placed_nest (placed_two one_res_placed (placed_behind w.Comma (placed_before w.RightParen one_res_placed)))
 
+next_res_placed : Placed next_res InRes
+unfolding next_res
+next_res_placed = placed_behind w.Comma one_res_placed
+
+more_res_placed : Placed more_res (EveryOf InRes)
+unfolding more_res
+more_res_placed = placed_up_to more_arms_than_two (w.Comma ∷ []) next_res_placed
+
+sum_res_placed : Placed sum_res (EveryOf InRes)
+unfolding sum_res
+sum_res_placed =
+    placed_nest (placed_seq one_res_placed (placed_seq next_res_placed (placed_before w.RightParen more_res_placed) (λ P x xs p q. (p, q))) (λ P x xs p q. (p, q)))
+
 pub shape_placed : Placed shape InShape
 unfolding shape
 shape_placed =
     placed_either (placed_map (word_placed w.Unit) (λ P x p. tt))
     (placed_either (placed_behind w.Int (placed_map one_term_placed (λ P t p. p)))
     (placed_either (placed_behind w.End (placed_map reference_placed (λ P r p. p)))
-    (placed_either (placed_behind w.Sum (placed_map two_res_placed (λ P x p. in_sum P x.0 x.1 p.0 p.1))) (placed_map two_res_placed (λ P x p. in_pair P x.0 x.1 p.0 p.1)))))
+    (placed_either (placed_behind w.Sum (placed_map sum_res_placed in_sum)) (placed_map two_res_placed (λ P x p. in_pair P x.0 x.1 p.0 p.1)))))
 
 pub res_placed : Placed res InRes
 unfolding res

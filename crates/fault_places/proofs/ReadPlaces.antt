@@ -3,7 +3,7 @@ use Rattle.std.proofs.Common.{◌≡◌, ℕ, zero, suc, ◌+◌, ◌<◌, List,
 use Rattle.std.specs.List.{All, count_by, suffix_len}
 use Rattle.std.proofs.lemmas.List.Elements.{All-head, All-tail}
 use Rattle.std.proofs.Math.Seq.{take-append_seam}
-use Rattle.chan_syntax.specs.declared.identifiers.Span.{Span}
+use Rattle.chan_base.specs.declared.spans.Span.{Span}
 use Rattle.text_tokens.specs.Text.{Token, StandsIn, AreInOrder, is_line_end, is_in_line}
 use Rattle.text_tokens.proofs.Each.{each_stands, in_order, span_within}
 use Rattle.grammar_laws.specs.Grammar.{Named}

@@ -1,6 +1,6 @@
 -- Where the faults of form of a program, and of a text, stand.
 use Rattle.std.specs.Prelude.{◌≡◌, ◌⊎◌, ℕ, Bool, List, [], take, IsTrue}
-use Rattle.chan_syntax.specs.declared.identifiers.Span.{Span}
+use Rattle.chan_base.specs.declared.spans.Span.{Span}
 use Rattle.chan_syntax.specs.declared.surface_tree.Surface.{Surface}
 use Rattle.form_faults.specs.declared.faults.IllKind.TheVariants as kind
 use Rattle.form_faults.specs.declared.faults.Ill.{Ill}

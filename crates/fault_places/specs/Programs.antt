@@ -1,17 +1,21 @@
 -- Where a property holds of each span in the parts of a program.
 use Rattle.std.specs.Prelude.{List}
-use Rattle.chan_syntax.specs.declared.identifiers.Span.{Span}
+use Rattle.chan_base.specs.declared.spans.Span.{Span}
 use Rattle.chan_syntax.specs.declared.resources.Proto.{Proto}
 use Rattle.core_programs.specs.declared.nodes.Node.{Node}
 use Rattle.core_programs.specs.declared.nodes.Node.TheVariants as node
+use Rattle.core_programs.specs.declared.nodes.Arm.{Arm}
 use Rattle.core_programs.specs.declared.nodes.Func.{Func}
 use Rattle.core_programs.specs.declared.nodes.Parts.{Parts}
-use Rattle.core_programs.specs.Trees.{Tree, Nothing, Grown, tree}
+use Rattle.core_programs.specs.Trees.{Tree, Nothing, Grown, Trees, NoMore, More, tree}
 use Rattle.fault_places.specs.Spans.{Every, OfAny, OfNames, InTerm, InBound, InRef, InRes, InParam, InEquation, InSupply, InPat, InProof}
 
 module _ (P : Span → Type 0) where
   abbrev pub InProto : Proto → Type 0
   InProto proto = P proto.name_span × OfNames P proto.params proto.params_spans × InEquation P proto.equation × P proto.span
+
+  abbrev pub InArmOf : Arm → Type 0
+  InArmOf arm = InPat P arm.pat
 
   abbrev pub InNode : Node → Type 0
   InNode (node.Let name name_at term next span) = P name_at × InTerm P term × P span
@@ -27,13 +31,19 @@ module _ (P : Span → Type 0) where
   InNode (node.Print term next span) = InTerm P term × P span
   InNode (node.If left right this other span) = InTerm P left × InTerm P right × P span
   InNode (node.Split first second name name_at next span) = InPat P first × InPat P second × P name_at × P span
-  InNode (node.Match name name_at left this right other span) = P name_at × InPat P left × InPat P right × P span
+  InNode (node.Match name name_at arms span) = P name_at × Every InArmOf arms × P span
   InNode (node.Absurd proof span) = InProof P proof × P span
   InNode (node.Ret value proof span) = InSupply P value × InProof P proof × P span
 
-  abbrev pub InTree : Tree → Type 0
-  InTree Nothing = Unit {0}
-  InTree (Grown x first second) = InNode x × InTree first × InTree second
+  abbrev mutual
+    pub InTree : Tree → Type 0
+    InTree Nothing = Unit {0}
+    InTree (Grown x bodies) = InNode x × InTrees bodies
+
+    -- the bodies after a node
+    pub InTrees : Trees → Type 0
+    InTrees NoMore = Unit {0}
+    InTrees (More body bodies) = InTree body × InTrees bodies
 
   -- a function, with the nodes of its body
   abbrev pub InFunc : List Node → Func → Type 0

@@ -1,7 +1,7 @@
 -- Where a property holds of each span in a term, a resource, a value or a proof.
 use Rattle.std.specs.Prelude.{List, [], ◌∷◌, Option, Some, None}
 use Rattle.core_language.specs.Names.{Ident}
-use Rattle.chan_syntax.specs.declared.identifiers.Span.{Span}
+use Rattle.chan_base.specs.declared.spans.Span.{Span}
 use Rattle.chan_syntax.specs.declared.linear.Part.{Part}
 use Rattle.chan_syntax.specs.declared.linear.Term.{Term}
 use Rattle.chan_syntax.specs.declared.linear.Limit.{Limit}
@@ -12,7 +12,7 @@ use Rattle.chan_syntax.specs.declared.resources.Res.{Res}
 use Rattle.chan_syntax.specs.declared.resources.Param.{Param}
 use Rattle.chan_syntax.specs.declared.resources.Equation.{Equation}
 use Rattle.chan_syntax.specs.declared.resources.Equation.TheVariants as equation
-use Rattle.chan_syntax.specs.declared.operands.Supply.{Supply, Unit as NoSupply, Pair' as SupplyPair', Left', Right', Sum, Row_of-Supply, end_of-Supply, more_of-Supply}
+use Rattle.chan_syntax.specs.declared.operands.Supply.{Supply, Unit as NoSupply, Pair' as SupplyPair', Arm', Sum, Row_of-Supply, end_of-Supply, more_of-Supply}
 use Rattle.chan_syntax.specs.declared.operands.Pat.{Pat}
 use Rattle.chan_syntax.specs.declared.operands.WrittenMention.{WrittenMention}
 use Rattle.chan_syntax.specs.declared.operands.WrittenCert.{WrittenCert}
@@ -61,12 +61,17 @@ module _ (P : Span → Type 0) where
     InShape (Int term) = InTerm term
     InShape (End ref) = InRef ref
     InShape (Pair' _ first _ second) = InBoxedRes first × InBoxedRes second
-    InShape (Sum' _ left _ right) = InBoxedRes left × InBoxedRes right
+    InShape (Sum' _ arms) = InResources arms
 
     -- what a box holds
     pub InBoxedRes : {m : _} → Row_of-Res m → Type 0
     InBoxedRes end_of-Res = Unit {0}
     InBoxedRes (more_of-Res bound shape rest) = InBound bound × InShape shape
+
+    -- what a list holds
+    pub InResources : {m : _} → Row_of-Res m → Type 0
+    InResources end_of-Res = Unit {0}
+    InResources (more_of-Res bound shape rest) = (InBound bound × InShape shape) × InResources rest
 
   abbrev pub InRes : Res → Type 0
   InRes res = InBound res.bound × InShape res.shape
@@ -91,8 +96,7 @@ module _ (P : Span → Type 0) where
     pub InSupply : Supply → Type 0
     InSupply NoSupply = Unit {0}
     InSupply (SupplyPair' _ first _ second) = InBoxedSupply first × InBoxedSupply second
-    InSupply (Left' _ value) = InBoxedSupply value
-    InSupply (Right' _ value) = InBoxedSupply value
+    InSupply (Arm' _ _ value) = InBoxedSupply value
     InSupply (Sum term) = InTerm term
 
     -- what a box holds

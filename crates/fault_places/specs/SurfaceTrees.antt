@@ -1,8 +1,9 @@
 -- Where a property holds of each span in the tree of a text.
-use Rattle.chan_syntax.specs.declared.identifiers.Span.{Span}
+use Rattle.chan_base.specs.declared.spans.Span.{Span}
 use Rattle.chan_syntax.specs.declared.surface_tree.Start.{Start}
 use Rattle.chan_syntax.specs.declared.surface_tree.Stmt.{Stmt, Let, Mul, Div, Rem, Call, Fork, ForkDo', Send1, Recv1, Send, Recv, Close, Wait, Choose, Split, Print, Row_of-Stmt, end_of-Stmt, more_of-Stmt}
-use Rattle.chan_syntax.specs.declared.surface_tree.Last.{Last, Ret, Tail, If', Match', Branch', Absurd, Loop', Again, Row_of-Last, end_of-Last, more_of-Last}
+use Rattle.chan_syntax.specs.declared.surface_tree.Last.{Last, Ret, Tail, If', Match', Branch', Absurd, Loop', Again, Row_of-Last, end_of-Last, more_of-Last, Row_of-SurfaceArm, end_of-SurfaceArm, more_of-SurfaceArm, Row_of-Block, end_of-Block, more_of-Block}
+use Rattle.chan_syntax.specs.declared.surface_tree.SurfaceArm.{SurfaceArm}
 use Rattle.chan_syntax.specs.declared.surface_tree.Block.{Block}
 use Rattle.chan_syntax.specs.declared.surface_tree.Body.{Body}
 use Rattle.chan_syntax.specs.declared.surface_tree.Body.TheVariants as body
@@ -43,9 +44,8 @@ module _ (P : Span → Type 0) where
     InLast (Ret v q span) = InSupply P v × InProof P q × P span
     InLast (Tail _ ft vs q span) = P ft × Every (InSupply P) vs × InProof P q × P span
     InLast (If' a b _ ss _ l _ ss' _ l' span) = InTerm P a × InTerm P b × (InRow ss × InBoxed l) × (InRow ss' × InBoxed l') × P span
-    InLast (Match' _ xt p _ ss _ l q _ ss' _ l' span) = P xt × InPat P p × (InRow ss × InBoxed l) × InPat P q × (InRow ss' × InBoxed l') × P span
-    InLast (Branch' _ ct _ pt q _ bt _ zt _ ss _ l _ ss' _ l' span) =
-        P ct × OfAny P pt × InProof P q × P bt × P zt × (InRow ss × InBoxed l) × (InRow ss' × InBoxed l') × P span
+    InLast (Match' _ xt _ arms span) = P xt × InArms arms × P span
+    InLast (Branch' _ ct _ pt q _ bt _ zt _ blocks span) = P ct × OfAny P pt × InProof P q × P bt × P zt × InBlocks blocks × P span
     InLast (Absurd q span) = InProof P q × P span
     InLast (Loop' _ nt b xs r q _ ss _ l span) = P nt × InBound P b × Every InStart xs × InRes P r × InProof P q × (InRow ss × InBoxed l) × P span
     InLast (Again vs q span) = Every (InSupply P) vs × InProof P q × P span
@@ -55,6 +55,16 @@ module _ (P : Span → Type 0) where
     InRow end_of-Stmt = Unit {0}
     InRow (more_of-Stmt x rest) = InStmt x × InRow rest
 
+    -- the arms of a match
+    pub InArms : {m : _} → Row_of-SurfaceArm m → Type 0
+    InArms end_of-SurfaceArm = Unit {0}
+    InArms (more_of-SurfaceArm p _ ss _ l rest) = (InPat P p × (InRow ss × InBoxed l)) × InArms rest
+
+    -- the blocks of a branch
+    pub InBlocks : {m : _} → Row_of-Block m → Type 0
+    InBlocks end_of-Block = Unit {0}
+    InBlocks (more_of-Block _ ss _ l rest) = (InRow ss × InBoxed l) × InBlocks rest
+
     -- what a box holds
     pub InBoxed : {m : _} → Row_of-Last m → Type 0
     InBoxed end_of-Last = Unit {0}
@@ -63,11 +73,14 @@ module _ (P : Span → Type 0) where
   abbrev pub InBlock : Block → Type 0
   InBlock block = Every InStmt block.stmts × InLast block.last
 
+  abbrev pub InArm : SurfaceArm → Type 0
+  InArm arm = InPat P arm.pat × InBlock arm.block
+
   -- ---- declarations
 
   abbrev pub InBody : Body → Type 0
   InBody (body.Plain e) = InEquation P e
-  InBody (body.Choice _ _ nt a b) = P nt × InRef P a × InRef P b
+  InBody (body.Choice _ _ nt refs) = P nt × Every (InRef P) refs
 
   abbrev pub InSurfaceProto : SurfaceProto → Type 0
   InSurfaceProto proto = P proto.name_span × OfNames P proto.params proto.params_spans × InBody proto.body × P proto.span

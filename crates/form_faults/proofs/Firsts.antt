@@ -1,6 +1,6 @@
 -- The first fault of lists that are joined.
 use Rattle.std.proofs.Common.{◌≡◌, if◌then◌else◌, List, [], ◌∷◌, ◌++◌, Option, Some, None, ℕ, zero, suc, ◌≤◌, length, map, slice_get, refl, sym, ap, arith}
-use Rattle.chan_syntax.specs.declared.identifiers.Span.{Span}
+use Rattle.chan_base.specs.declared.spans.Span.{Span}
 use Rattle.form_faults.specs.declared.faults.Ill.{Ill}
 use Rattle.form_faults.specs.Faults.{decides, sooner_of, least, at_element, past}
 

@@ -1,7 +1,5 @@
 pub mod Firsts
 pub mod Places
 pub mod Binders
-pub mod Rows
-pub mod Adding
 pub mod Shapes
 pub mod First

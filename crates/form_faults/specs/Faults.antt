@@ -2,7 +2,7 @@
 use Rattle.std.specs.Prelude.{◌≡◌, ℕ, Bool, true, false, ◌||◌, ◌&&◌, if◌then◌else◌, nat_eq, nat_lt, List, [], ◌∷◌, ◌++◌, Option, Some, None, slice_get}
 use Rattle.std.specs.List.{list_all, list_any}
 use Rattle.core_language.specs.Names.{Ident}
-use Rattle.chan_syntax.specs.declared.identifiers.Span.{Span}
+use Rattle.chan_base.specs.declared.spans.Span.{Span}
 use Rattle.form_faults.specs.declared.faults.IllKind.{IllKind}
 use Rattle.form_faults.specs.declared.faults.IllKind.TheVariants as kind
 use Rattle.form_faults.specs.declared.faults.Ill.{Ill}

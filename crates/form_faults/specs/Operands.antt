@@ -1,7 +1,7 @@
 -- The faults of what statements name: values, proofs, patterns and paths.
 use Rattle.std.specs.Prelude.{ℕ, ◌||◌, not, nat_eq, nat_le, nat_lt, if◌then◌else◌, length, map, List, [], ◌∷◌, ◌++◌, Option, unwrap_or}
-use Rattle.chan_syntax.specs.declared.identifiers.Span.{Span}
-use Rattle.chan_syntax.specs.declared.operands.Supply.{Supply, Unit, Pair', Left', Right', Sum, Row_of-Supply, end_of-Supply, more_of-Supply}
+use Rattle.chan_base.specs.declared.spans.Span.{Span}
+use Rattle.chan_syntax.specs.declared.operands.Supply.{Supply, Unit, Pair', Arm', Sum, Row_of-Supply, end_of-Supply, more_of-Supply}
 use Rattle.chan_syntax.specs.declared.operands.Pat.{Pat}
 use Rattle.chan_syntax.specs.declared.operands.Letter.{Letter}
 use Rattle.chan_syntax.specs.declared.operands.WrittenMention.{WrittenMention}
@@ -22,8 +22,7 @@ unfoldable mutual
   pub supply_faults : List Known → Supply → List Ill
   supply_faults scope Unit = []
   supply_faults scope (Pair' _ first _ second) = supply_in_faults scope first ++ supply_in_faults scope second
-  supply_faults scope (Left' _ value) = supply_in_faults scope value
-  supply_faults scope (Right' _ value) = supply_in_faults scope value
+  supply_faults scope (Arm' number _ value) = supply_in_faults scope value
   supply_faults scope (Sum term) = term_faults naming.Variables scope term
 
   -- what a box holds: a row of one value

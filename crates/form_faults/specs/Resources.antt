@@ -1,6 +1,6 @@
 -- The faults of shapes, resources, protocols and headers.
 use Rattle.std.specs.Prelude.{ℕ, suc, max, Bool, true, ◌&&◌, nat_le, if◌then◌else◌, map, List, [], ◌∷◌, ◌++◌, Option, Some, None}
-use Rattle.chan_syntax.specs.declared.identifiers.Span.{Span}
+use Rattle.chan_base.specs.declared.spans.Span.{Span}
 use Rattle.chan_syntax.specs.declared.linear.Term.{Term}
 use Rattle.chan_syntax.specs.declared.linear.Bound.{Bound}
 use Rattle.chan_syntax.specs.declared.resources.Ref.{Ref}
@@ -27,15 +27,25 @@ unfoldable mutual
   shape_faults protos scope (Int term) = fixed_term_faults scope term
   shape_faults protos scope (End ref) = fixed_ref_faults protos scope ref
   shape_faults protos scope (Pair' _ first _ second) = res_in_faults protos scope first ++ res_in_faults protos scope second
-  shape_faults protos scope (Sum' _ left _ right) = res_in_faults protos scope left ++ res_in_faults protos scope right
+  shape_faults protos scope (Sum' _ arms) = row_faults protos scope arms
 
   -- what a box holds: a row of one resource
   pub res_in_faults : {m : _} → List Signature → List Known → Row_of-Res m → List Ill
   res_in_faults protos scope end_of-Res = []
   res_in_faults protos scope (more_of-Res bound shape rest) = bound_faults scope bound ++ shape_faults protos (bound_scope scope bound) shape
 
+  -- the resources of a row, one after another
+  pub row_faults : {m : _} → List Signature → List Known → Row_of-Res m → List Ill
+  row_faults protos scope end_of-Res = []
+  row_faults protos scope (more_of-Res bound shape rest) =
+      (bound_faults scope bound ++ shape_faults protos (bound_scope scope bound) shape) ++ row_faults protos scope rest
+
 unfoldable pub res_faults : List Signature → List Known → Res → List Ill
 res_faults protos scope res = bound_faults scope res.bound ++ shape_faults protos (bound_scope scope res.bound) res.shape
+
+unfoldable pub resources_faults : List Signature → List Known → List Res → List Ill
+resources_faults protos scope [] = []
+resources_faults protos scope (r ∷ rs) = res_faults protos scope r ++ resources_faults protos scope rs
 
 -- ---- how deep shapes are nested
 
@@ -45,11 +55,20 @@ unfoldable mutual
   depth_of (Int term) = 0
   depth_of (End ref) = 0
   depth_of (Pair' _ first _ second) = suc (max (depth_in first) (depth_in second))
-  depth_of (Sum' _ left _ right) = suc (max (depth_in left) (depth_in right))
+  depth_of (Sum' _ arms) = suc (row_depth arms)
 
   pub depth_in : {m : _} → Row_of-Res m → ℕ
   depth_in end_of-Res = 0
   depth_in (more_of-Res bound shape rest) = depth_of shape
+
+  -- that of the deepest of a row
+  pub row_depth : {m : _} → Row_of-Res m → ℕ
+  row_depth end_of-Res = 0
+  row_depth (more_of-Res bound shape rest) = max (depth_of shape) (row_depth rest)
+
+unfoldable pub greatest_depth : List Res → ℕ
+greatest_depth [] = 0
+greatest_depth (r ∷ rs) = max (depth_of r.shape) (greatest_depth rs)
 
 abbrev pub is_shallow : Shape → Bool
 is_shallow shape = nat_le (depth_of shape) 200

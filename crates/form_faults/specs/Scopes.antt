@@ -2,7 +2,7 @@
 use Rattle.std.specs.Prelude.{ℕ, Bool, true, false, is_some, if◌then◌else◌, nat_eq, List, [], ◌∷◌, ◌++◌, map, Option, Some, None}
 use Rattle.std.specs.List.{list_any}
 use Rattle.core_language.specs.Names.{Ident, same}
-use Rattle.chan_syntax.specs.declared.identifiers.Span.{Span}
+use Rattle.chan_base.specs.declared.spans.Span.{Span}
 use Rattle.form_faults.specs.declared.faults.IllKind.TheVariants as kind
 use Rattle.form_faults.specs.declared.faults.Ill.{Ill}
 use Rattle.form_faults.specs.declared.sorts.Sort.{Sort}

@@ -1,7 +1,7 @@
 -- The faults of terms, limits, binders and references.
 use Rattle.std.specs.Prelude.{ℕ, nat_eq, if◌then◌else◌, length, map, List, [], ◌∷◌, ◌++◌, Option, Some, None, unwrap_or}
 use Rattle.core_language.specs.Names.{Ident}
-use Rattle.chan_syntax.specs.declared.identifiers.Span.{Span}
+use Rattle.chan_base.specs.declared.spans.Span.{Span}
 use Rattle.chan_syntax.specs.declared.linear.Part.{Part}
 use Rattle.chan_syntax.specs.declared.linear.Term.{Term}
 use Rattle.chan_syntax.specs.declared.linear.Limit.{Limit}
@@ -17,7 +17,7 @@ use Rattle.form_faults.specs.declared.sorts.Known.{Known}
 use Rattle.form_faults.specs.declared.signatures.Signature.{Signature}
 use Rattle.form_faults.specs.Faults.{of_name, past, unless}
 use Rattle.form_faults.specs.Scopes.{found, unscoped, Binder, binders, bind_all, twice_all, most_of, names_past}
-use Rattle.form_faults.specs.Numbers.{is_narrow, is_narrow_limit}
+use Rattle.narrow_terms.specs.Numbers.{is_narrow, is_narrow_limit}
 
 -- ---- terms
 

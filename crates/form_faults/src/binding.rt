@@ -6,8 +6,8 @@ ghost use Rattle.form_faults.specs.Scopes.{binders, bind_all, twice_all};
 use crate::faults::Ill;
 use crate::scopes::{Scope, bind_name};
 use crate::sorts::Sort;
-use chan_base::Memory;
-use chan_syntax::{Ident, Span};
+use chan_base::{Memory, Span};
+use chan_syntax::Ident;
 use std::alloc::Global;
 
 /// The span of what no text has.

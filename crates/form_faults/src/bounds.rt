@@ -12,8 +12,8 @@ use crate::faults::{Ill, IllKind, note};
 use crate::scopes::Scope;
 use crate::sorts::Sort;
 use crate::terms::check_limits;
-use chan_base::Memory;
-use chan_syntax::{Bound, Ident, Limit, Span};
+use chan_base::{Memory, Span};
+use chan_syntax::{Bound, Ident, Limit};
 use std::alloc::Global;
 
 /// No text has a name with a dot.

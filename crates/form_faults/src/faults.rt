@@ -2,8 +2,8 @@
 ghost use Rattle.std.specs.Prelude.{◌≡◌, OnOk};
 ghost use Rattle.form_faults.specs.Faults.{number_of, precedes, decides, least, of_name, at_span, unless};
 
-use chan_base::Memory;
-use chan_syntax::{Ident, Idents, Span};
+use chan_base::{Memory, Span};
+use chan_syntax::{Ident, Idents};
 use sqlite_items::Items;
 use std::alloc::Global;
 

@@ -13,8 +13,8 @@ use crate::resources::{check_res, check_shape, is_shallow, note_deep};
 use crate::scopes::{Scope, check_new};
 use crate::sorts::Sort;
 use crate::tables::Table;
-use chan_base::Memory;
-use chan_syntax::{Bound, Param, Res, Span};
+use chan_base::{Memory, Span};
+use chan_syntax::{Bound, Param, Res};
 use std::alloc::Global;
 
 fn params_are_shallow(params: &[Param]) -> bool

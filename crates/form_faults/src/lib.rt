@@ -7,7 +7,6 @@ mod binding;
 mod bounds;
 mod faults;
 mod headers;
-mod narrowness;
 mod operands;
 mod resources;
 mod scopes;

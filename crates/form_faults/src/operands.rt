@@ -11,8 +11,8 @@ use crate::faults::{Ill, IllKind, note, note_number};
 use crate::scopes::{Scope, bind_name};
 use crate::sorts::{Naming, Sort};
 use crate::terms::{check_term, check_terms};
-use chan_base::Memory;
-use chan_syntax::{Pat, Path, Proof, Span, Supply, WrittenCert, WrittenMention};
+use chan_base::{Memory, Span};
+use chan_syntax::{Pat, Path, Proof, Supply, WrittenCert, WrittenMention};
 use std::alloc::Global;
 
 /// The greatest number of a certificate.
@@ -34,8 +34,7 @@ pub fn check_supply(
             check_supply(alloc, first, scope, left.get())?;
             check_supply(alloc, first, scope, right.get())
         }
-        Supply::Left(value) => check_supply(alloc, first, scope, value.get()),
-        Supply::Right(value) => check_supply(alloc, first, scope, value.get()),
+        Supply::Arm(_, value) => check_supply(alloc, first, scope, value.get()),
         Supply::Sum(term) => check_term(alloc, first, scope, Naming::Variables, term),
     }
 }

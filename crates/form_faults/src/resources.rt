@@ -12,8 +12,8 @@ use crate::scopes::Scope;
 use crate::sorts::Sort;
 use crate::tables::Table;
 use crate::terms::{check_fixed_ref, check_fixed_term};
-use chan_base::Memory;
-use chan_syntax::{Equation, Proto, Ref, Res, Shape, Span, Term};
+use chan_base::{Memory, Span};
+use chan_syntax::{Equation, Proto, Ref, Res, Shape, Term};
 use std::alloc::Global;
 
 #[cycle(shapes)]
@@ -32,11 +32,31 @@ pub(crate) fn check_shape(
         Shape::Unit => Ok(()),
         Shape::Int(term) => check_fixed_term(alloc, first, scope, term),
         Shape::End(reference) => check_fixed_ref(alloc, first, protos, scope, reference),
-        Shape::Pair(left, right) | Shape::Sum(left, right) => {
+        Shape::Pair(left, right) => {
             check_res(alloc, first, protos, scope, left.get())?;
             check_res(alloc, first, protos, scope, right.get())
         }
+        Shape::Sum(arms) => check_resources(alloc, first, protos, scope, arms.as_slice()),
     }
+}
+
+/// The resources of a sum.
+#[cycle(shapes)]
+#[tactic(auto, using(crate::proofs::Firsts::first_rules, std::proofs::lemmas::Grind::common_steps), unfolding(crate::specs::Resources::resources_faults))]
+fn check_resources(
+    alloc: Global,
+    first: &mut Option<Ill>,
+    protos: &Table,
+    scope: &mut Scope,
+    resources: &[Res],
+) -> Result<(), Memory>
+    ensures first { OnOk result (first.new ≡ least first.old (spec.resources_faults protos.now scope.old resources.now)) }
+    ensures scope { OnOk result (scope.new ≡ scope.old) }
+{
+    for resource in resources {
+        check_res(alloc, first, protos, scope, resource)?;
+    }
+    Ok(())
 }
 
 /// A resource. Its binders are in scope in it alone.
@@ -67,12 +87,27 @@ fn is_within(shape: &Shape, most: usize) -> bool
 {
     match shape {
         Shape::Unit | Shape::Int(_) | Shape::End(_) => true,
-        Shape::Pair(left, right) | Shape::Sum(left, right) => {
+        Shape::Pair(left, right) => {
             most > 0
                 && is_within(&left.get().shape, most - 1)
                 && is_within(&right.get().shape, most - 1)
         }
+        Shape::Sum(arms) => most > 0 && are_within(arms.as_slice(), most - 1),
     }
+}
+
+/// Whether the shapes of resources are nested at most so deep.
+#[cycle(depths)]
+#[tactic(auto, using(std::proofs::lemmas::Bool::Decides::nat_tests, std::proofs::lemmas::Grind::common_steps), unfolding(crate::specs::Resources::greatest_depth))]
+fn are_within(resources: &[Res], most: usize) -> bool
+    ensures { result ≡ nat_le (spec.greatest_depth resources.now) most }
+{
+    for resource in resources {
+        if !is_within(&resource.shape, most) {
+            return false;
+        }
+    }
+    true
 }
 
 pub(crate) fn is_shallow(shape: &Shape) -> bool

@@ -5,8 +5,8 @@ ghost use Rattle.form_faults.specs.Faults.{least};
 
 use crate::faults::{Ill, IllKind, note_name};
 use crate::sorts::{Known, Naming, Sort, is_usable};
-use chan_base::Memory;
-use chan_syntax::{Ident, Span};
+use chan_base::{Memory, Span};
+use chan_syntax::Ident;
 use std::alloc::Global;
 use std::collections::BTreeMap;
 use std::marker::Model;

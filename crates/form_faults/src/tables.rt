@@ -5,8 +5,8 @@ ghost use Rattle.form_faults.specs.Terms.{count_of, use_faults};
 
 use crate::faults::{Ill, IllKind, note_name};
 use crate::signatures::Signature;
-use chan_base::Memory;
-use chan_syntax::{Ident, Span};
+use chan_base::{Memory, Span};
+use chan_syntax::Ident;
 use std::alloc::Global;
 use std::collections::BTreeMap;
 use std::marker::Model;

@@ -6,12 +6,12 @@ ghost use Rattle.form_faults.specs.Faults.{least};
 ghost use Rattle.form_faults.specs.Terms as spec;
 
 use crate::faults::{Ill, note_number};
-use crate::narrowness::{is_narrow, is_narrow_limit};
 use crate::scopes::{Scope, check_name};
 use crate::sorts::Naming;
 use crate::tables::{Table, check_use};
-use chan_base::Memory;
-use chan_syntax::{Limit, Part, Ref, Span, Term};
+use chan_base::{Memory, Span};
+use chan_syntax::{Limit, Part, Ref, Term};
+use narrow_terms::{is_narrow, is_narrow_limit};
 use std::alloc::Global;
 
 #[tactic(auto, using(crate::proofs::Firsts::first_rules, std::proofs::lemmas::Grind::common_steps), unfolding(crate::specs::Terms::part_faults))]

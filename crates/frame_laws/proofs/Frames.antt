@@ -1,16 +1,16 @@
 -- What becomes of the values of a frame.
 use Rattle.std.proofs.Common.{◌≡◌, suc, Bool, true, false, cond, not, ◌&&◌, ◌||◌, List, [], ◌∷◌, ◌++◌, length, Some, None, ⊎_elim, refl, sym, ap, ◌∙◌, true≢false}
 use Rattle.std.specs.List.{list_any}
-use Rattle.std.proofs.lemmas.Bool.{cases_Bool}
+use Rattle.std.proofs.lemmas.Bool.{cases_Bool, or_right}
 use Rattle.core_language.specs.Names.{Ident, same}
 use Rattle.core_language.specs.Operands.{Supply}
-use Rattle.core_language.specs.Programs.{Body, Param}
+use Rattle.core_language.specs.Programs.{Body, Arms, Param}
 use Rattle.core_language.specs.Programs as body
 use Rattle.core_language.specs.Values.{Value}
 use Rattle.core_language.specs.Computing.{Limits, Computed, Done, Sticks, Halts, and_then, Env, value_of, supplied, all_supplied}
-use Rattle.core_language.specs.Configurations.{in_term, in_supply, in_supplies, names, kept}
+use Rattle.core_language.specs.Configurations.{in_term, in_supply, in_supplies, names, arms_name, kept}
 use Rattle.core_language.specs.Acts.{bound, params_env}
-use Rattle.frame_laws.specs.Needs.{needs}
+use Rattle.frame_laws.specs.Needs.{needs, arms_need}
 use Rattle.frame_laws.specs.Fits.{HasValue}
 use Rattle.frame_laws.proofs.Tests.{same_is, past, or_more}
 
@@ -81,27 +81,37 @@ two false true other said told first second is = ap (λ t. t || told) (first ref
 two false false other true told first second is = refl
 two false false other false told first second is = second is
 
-pub needed_named : (here : Body) (x : Ident) → needs here x ≡ true → names here x ≡ true
-needed_named (body.Let span y term next) x = or_more (in_term x term) _ (names next x) (unbound (names next x) (needs next x) (same y x) (needed_named next x))
-needed_named (body.Mul span y left right next) x =
-    or_more (in_term x left || in_term x right) _ (names next x) (unbound (names next x) (needs next x) (same y x) (needed_named next x))
-needed_named (body.Div span y term divisor next) x = or_more (in_term x term) _ (names next x) (unbound (names next x) (needs next x) (same y x) (needed_named next x))
-needed_named (body.Rem span y term divisor next) x = or_more (in_term x term) _ (names next x) (unbound (names next x) (needs next x) (same y x) (needed_named next x))
-needed_named (body.Call span pat func values proof next) x =
-    or_more (in_supplies x values) _ (names next x) (unbound (names next x) (needs next x) (same pat.name x) (needed_named next x))
-needed_named (body.Tail span func values proof) x = λ is. is
-needed_named (body.Fork span y proto func values proof next) x =
-    or_more (in_supplies x values) _ (names next x) (unbound (names next x) (needs next x) (same y x) (needed_named next x))
-needed_named (body.Send1 span channel path value proof next) x = or_more (same x channel || in_supply x value) _ (names next x) (needed_named next x)
-needed_named (body.Recv1 span pat channel path proof next) x =
-    or_more (same x channel) _ (names next x) (unbound (names next x) (needs next x) (same pat.name x) (needed_named next x))
-needed_named (body.Print span term next) x = or_more (in_term x term) _ (names next x) (needed_named next x)
-needed_named (body.If span left right this other) x =
-    two (in_term x left || in_term x right) (needs this x) (needs other x) (names this x) (names other x) (needed_named this x) (needed_named other x)
-needed_named (body.Split span first second y next) x =
-    or_more (same x y) _ (names next x) (unbound (names next x) (needs next x) (same first.name x || same second.name x) (needed_named next x))
-needed_named (body.Match span y left this right other) x =
-    two (same x y) (needs this x && not (same left.name x)) (needs other x && not (same right.name x)) (names this x) (names other x)
-    (unbound (names this x) (needs this x) (same left.name x) (needed_named this x)) (unbound (names other x) (needs other x) (same right.name x) (needed_named other x))
-needed_named (body.Absurd span proof) x = λ is. is
-needed_named (body.Ret span value proof) x = λ is. is
+-- what is needed in the first of two or in the other
+both_more : (a b c d : Bool) → (a ≡ true → c ≡ true) → (b ≡ true → d ≡ true) → a || b ≡ true → c || d ≡ true
+both_more true b c d first second is = ap (λ t. t || d) (first refl)
+both_more false b c d first second is = or_right c d (second is)
+
+mutual
+  pub needed_named : (here : Body) (x : Ident) → needs here x ≡ true → names here x ≡ true
+  needed_named (body.Let span y term next) x = or_more (in_term x term) _ (names next x) (unbound (names next x) (needs next x) (same y x) (needed_named next x))
+  needed_named (body.Mul span y left right next) x =
+      or_more (in_term x left || in_term x right) _ (names next x) (unbound (names next x) (needs next x) (same y x) (needed_named next x))
+  needed_named (body.Div span y term divisor next) x = or_more (in_term x term) _ (names next x) (unbound (names next x) (needs next x) (same y x) (needed_named next x))
+  needed_named (body.Rem span y term divisor next) x = or_more (in_term x term) _ (names next x) (unbound (names next x) (needs next x) (same y x) (needed_named next x))
+  needed_named (body.Call span pat func values proof next) x =
+      or_more (in_supplies x values) _ (names next x) (unbound (names next x) (needs next x) (same pat.name x) (needed_named next x))
+  needed_named (body.Tail span func values proof) x = λ is. is
+  needed_named (body.Fork span y proto func values proof next) x =
+      or_more (in_supplies x values) _ (names next x) (unbound (names next x) (needs next x) (same y x) (needed_named next x))
+  needed_named (body.Send1 span channel path value proof next) x = or_more (same x channel || in_supply x value) _ (names next x) (needed_named next x)
+  needed_named (body.Recv1 span pat channel path proof next) x =
+      or_more (same x channel) _ (names next x) (unbound (names next x) (needs next x) (same pat.name x) (needed_named next x))
+  needed_named (body.Print span term next) x = or_more (in_term x term) _ (names next x) (needed_named next x)
+  needed_named (body.If span left right this other) x =
+      two (in_term x left || in_term x right) (needs this x) (needs other x) (names this x) (names other x) (needed_named this x) (needed_named other x)
+  needed_named (body.Split span first second y next) x =
+      or_more (same x y) _ (names next x) (unbound (names next x) (needs next x) (same first.name x || same second.name x) (needed_named next x))
+  needed_named (body.Match span y arms) x = or_more (same x y) _ (arms_name arms x) (arms_needed_named arms x)
+  needed_named (body.Absurd span proof) x = λ is. is
+  needed_named (body.Ret span value proof) x = λ is. is
+
+  arms_needed_named : (arms : Arms) (x : Ident) → arms_need arms x ≡ true → arms_name arms x ≡ true
+  arms_needed_named body.NoArm x = λ is. is
+  arms_needed_named (body.Arm pat next more) x =
+      both_more (needs next x && not (same pat.name x)) (arms_need more x) (names next x) (arms_name more x)
+      (unbound (names next x) (needs next x) (same pat.name x) (needed_named next x)) (arms_needed_named more x)

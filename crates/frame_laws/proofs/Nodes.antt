@@ -4,33 +4,35 @@ use Rattle.std.specs.List.{AllByRecursion, list_any}
 use Rattle.std.proofs.lemmas.List.{length-map}
 use Rattle.std.proofs.lemmas.Option.{slice_get_cases}
 use Rattle.core_language.specs.Names.{Ident, same}
-use Rattle.core_language.specs.Programs.{Body, Function, Param, function_named}
+use Rattle.core_language.specs.Programs.{Body, Function, Param, function_named, arm_list}
 use Rattle.core_language.specs.Programs as body
-use Rattle.chan_syntax.specs.declared.identifiers.Span.{Span}
+use Rattle.chan_base.specs.declared.spans.Span.{Span}
 use Rattle.chan_syntax.specs.Reading.{supply_of}
 use Rattle.form_faults.specs.declared.sorts.Known.{Known}
 use Rattle.form_faults.specs.declared.signatures.Signature.{Signature}
 use Rattle.form_faults.specs.Scopes.{bind_all}
 use Rattle.form_faults.specs.Terms.{use_faults, ref_faults, count_of, counted}
 use Rattle.form_faults.specs.Resources.{header_scope, header_faults}
+use Rattle.core_programs.specs.declared.nodes.Arm.{Arm}
 use Rattle.core_programs.specs.declared.nodes.Node.{Node}
 use Rattle.core_programs.specs.declared.nodes.Node.TheVariants as node
 use Rattle.core_programs.specs.declared.nodes.Func.{Func}
 use Rattle.core_programs.specs.declared.nodes.Parts.{Parts}
-use Rattle.core_programs.specs.Bodies.{opened, rest, param_of, function_of, program_of}
+use Rattle.core_programs.specs.Bodies.{arms_opened, opened, rest, param_of, function_of, program_of}
 use Rattle.core_programs.specs.Formed.{nexts, Leads, IsNumbered}
-use Rattle.core_programs.specs.Trees.{at_number, tree}
-use Rattle.core_programs.specs.Passes.{call_faults, operand_faults, first_binders, second_binders, body_faults, func_faults, funcs_faults, protos_faults, proto_signatures, func_signatures}
+use Rattle.core_programs.specs.Trees.{grown, tree}
+use Rattle.core_programs.specs.Passes.{call_faults, operand_faults, binders_at, body_faults, func_faults, funcs_faults, protos_faults, proto_signatures, func_signatures}
 use Rattle.core_programs.specs.Form.{IsFormed}
 use Rattle.core_programs.proofs.Forests.{rest_opened}
 use Rattle.core_programs.proofs.Growing.{tree_grown}
+use Rattle.core_programs.proofs.Clean.{operands_clean, body_clean}
 use Rattle.frame_laws.specs.Needs.{needs}
 use Rattle.frame_laws.specs.Fits.{StandsAtNode}
 use Rattle.frame_laws.specs.Calls.{HasFunction, FindsFunction}
 use Rattle.frame_laws.specs.Laws.{CallsFindFunctions}
 use Rattle.frame_laws.proofs.Tests.{faultless, none_left, none_right}
 use Rattle.frame_laws.proofs.Variables.{of_header}
-use Rattle.frame_laws.proofs.Scoped.{parts_clean, body_scoped}
+use Rattle.frame_laws.proofs.Scoped.{body_scoped}
 
 -- ---- bodies that follow
 
@@ -48,9 +50,13 @@ follows (body.Recv1 span pat channel path proof next) = next ∷ []
 follows (body.Print span term next) = next ∷ []
 follows (body.If span left right this other) = this ∷ other ∷ []
 follows (body.Split span first second x next) = next ∷ []
-follows (body.Match span x left this right other) = this ∷ other ∷ []
+follows (body.Match span x arms) = map (λ arm. arm.1) (arm_list arms)
 follows (body.Absurd span proof) = []
 follows (body.Ret span value proof) = []
+
+arms_follow : (arms : List Arm) (at : ℕ → Body) → map at (map (λ arm. arm.next) arms) ≡ map (λ arm. arm.1) (arm_list (arms_opened arms at))
+arms_follow [] at = refl
+arms_follow (arm ∷ arms) at = ap (λ bs. at arm.next ∷ bs) (arms_follow arms at)
 
 follows_opened : (y : Node) (at : ℕ → Body) → map at (nexts y) ≡ follows (opened y at)
 follows_opened (node.Let name name_at term next span) at = refl
@@ -65,7 +71,7 @@ follows_opened (node.Recv1 pat channel channel_at path path_at proof next span) 
 follows_opened (node.Print term next span) at = refl
 follows_opened (node.If left right this other span) at = refl
 follows_opened (node.Split first second name name_at next span) at = refl
-follows_opened (node.Match name name_at left this right other span) at = refl
+follows_opened (node.Match name name_at arms span) at = arms_follow arms at
 follows_opened (node.Absurd proof span) at = refl
 follows_opened (node.Ret value proof span) at = refl
 
@@ -124,24 +130,6 @@ func_clean protos funcs nodes (h ∷ hs) zero g is none =
     (none_right (header_faults protos h.name_span h.bound h.params h.result) _ (none_left (func_faults protos funcs nodes h) _ none))
 func_clean protos funcs nodes (h ∷ hs) (suc k) g is none = func_clean protos funcs nodes hs k g is (none_right (func_faults protos funcs nodes h) _ none)
 
--- a node names two numbers at most
-two_at_most : (y : Node) (k m : ℕ) → slice_get (nexts y) (suc (suc k)) ≡ Some m → ⊥
-two_at_most (node.Let name name_at term next span) k m is = cc
-two_at_most (node.Mul name name_at left right next span) k m is = cc
-two_at_most (node.Div name name_at term divisor divisor_at next span) k m is = cc
-two_at_most (node.Rem name name_at term divisor divisor_at next span) k m is = cc
-two_at_most (node.Call pat func func_at values proof next span) k m is = cc
-two_at_most (node.Tail func func_at values proof span) k m is = cc
-two_at_most (node.Fork name name_at proto func func_at values proof next span) k m is = cc
-two_at_most (node.Send1 channel channel_at path path_at value proof next span) k m is = cc
-two_at_most (node.Recv1 pat channel channel_at path path_at proof next span) k m is = cc
-two_at_most (node.Print term next span) k m is = cc
-two_at_most (node.If left right this other span) k m is = cc
-two_at_most (node.Split first second name name_at next span) k m is = cc
-two_at_most (node.Match name name_at left this right other span) k m is = cc
-two_at_most (node.Absurd proof span) k m is = cc
-two_at_most (node.Ret value proof span) k m is = cc
-
 module _ (parts : Parts) (formed : IsFormed parts) where
   abbrev protos : List Signature
   protos = proto_signatures parts.protos
@@ -167,25 +155,13 @@ module _ (parts : Parts) (formed : IsFormed parts) where
   abbrev IsClean : ℕ → Type 0
   IsClean n = (scope : List Known) × (body_faults protos funcs scope (tree parts.nodes n) ≡ [])
 
-  clean_parts : (n : ℕ) (y : Node) (scope : List Known) → n < length parts.nodes → slice_get parts.nodes n ≡ Some y → body_faults protos funcs scope (tree parts.nodes n) ≡ []
-      → (operand_faults protos funcs scope y ≡ [])
-      × (body_faults protos funcs (bind_all scope (first_binders y)) (at_number (slice_get (nexts y) 0) (tree parts.nodes)) ≡ [])
-      × (body_faults protos funcs (bind_all scope (second_binders y)) (at_number (slice_get (nexts y) 1) (tree parts.nodes)) ≡ [])
-  clean_parts n y scope lt is none =
-      parts_clean protos funcs scope y (at_number (slice_get (nexts y) 0) (tree parts.nodes)) (at_number (slice_get (nexts y) 1) (tree parts.nodes))
-      (ap (body_faults protos funcs scope) (sym (tree_grown parts n y formed.numbered lt is)) ∙ none)
+  clean_here : (n : ℕ) (y : Node) (scope : List Known) → n < length parts.nodes → slice_get parts.nodes n ≡ Some y → body_faults protos funcs scope (tree parts.nodes n) ≡ []
+      → body_faults protos funcs scope (grown y (tree parts.nodes)) ≡ []
+  clean_here n y scope lt is none = ap (body_faults protos funcs scope) (sym (tree_grown parts n y formed.numbered lt is)) ∙ none
 
   -- nor in the bodies that its node names
   turned : (n : ℕ) (y : Node) (turn next : ℕ) → n < length parts.nodes → slice_get parts.nodes n ≡ Some y → slice_get (nexts y) turn ≡ Some next → IsClean n → IsClean next
-  turned n y zero next lt is picked (scope, none) = (
-    bind_all scope (first_binders y),
-    subst (λ o. body_faults protos funcs (bind_all scope (first_binders y)) (at_number o (tree parts.nodes)) ≡ []) picked (clean_parts n y scope lt is none).1,
-  )
-  turned n y (suc zero) next lt is picked (scope, none) = (
-    bind_all scope (second_binders y),
-    subst (λ o. body_faults protos funcs (bind_all scope (second_binders y)) (at_number o (tree parts.nodes)) ≡ []) picked (clean_parts n y scope lt is none).2,
-  )
-  turned n y (suc (suc k)) next lt is picked clean = absurd (two_at_most y k next picked)
+  turned n y turn next lt is picked (scope, none) = (bind_all scope (binders_at y turn), body_clean protos funcs (tree parts.nodes) y scope turn next (clean_here n y scope lt is none) picked)
 
   led : (turns : List ℕ) (n m : ℕ) → n < length parts.nodes → Leads parts.nodes n turns m → IsClean n → IsClean m
   led [] n m lt leads clean = subst IsClean leads clean
@@ -219,7 +195,7 @@ module _ (parts : Parts) (formed : IsFormed parts) where
   node_finds (node.Print term next span) scope at none = tt
   node_finds (node.If left right this other span) scope at none = tt
   node_finds (node.Split first second name name_at next span) scope at none = tt
-  node_finds (node.Match name name_at left this right other span) scope at none = tt
+  node_finds (node.Match name name_at arms span) scope at none = tt
   node_finds (node.Absurd proof span) scope at none = tt
   node_finds (node.Ret value proof span) scope at none = tt
 
@@ -228,4 +204,4 @@ calls_find_functions parts formed here (n, lt, is) =
     let (y, at) = node_at parts.nodes n lt in
     let (scope, none) = all_clean parts formed n lt in
     subst (FindsFunction (program_of parts)) (sym (is ∙ rest_opened parts n y formed.numbered lt at))
-    (node_finds parts formed y scope (rest parts.nodes) (clean_parts parts formed n y scope lt at none).0)
+    (node_finds parts formed y scope (rest parts.nodes) (operands_clean (protos parts formed) (funcs parts formed) (tree parts.nodes) y scope (clean_here parts formed n y scope lt at none)))

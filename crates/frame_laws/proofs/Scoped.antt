@@ -4,24 +4,26 @@ use Rattle.std.proofs.lemmas.Bool.{or_parts, or_from}
 use Rattle.core_language.specs.Names.{Ident, same}
 use Rattle.core_language.specs.Programs.{Body}
 use Rattle.core_language.specs.Configurations.{is_name, in_term, in_supply, in_supplies}
-use Rattle.chan_syntax.specs.declared.identifiers.Span.{Span}
+use Rattle.chan_base.specs.declared.spans.Span.{Span}
 use Rattle.chan_syntax.specs.declared.linear.Part.{Part}
 use Rattle.chan_syntax.specs.declared.linear.Term.{Term}
-use Rattle.chan_syntax.specs.declared.operands.Supply.{Supply, Unit, Pair', Left', Right', Sum, Row_of-Supply, end_of-Supply, more_of-Supply}
+use Rattle.chan_syntax.specs.declared.operands.Supply.{Supply, Unit, Pair', Arm', Sum, Row_of-Supply, end_of-Supply, more_of-Supply}
 use Rattle.chan_syntax.specs.Reading.{part_of, term_of, supply_of, supply_in}
 use Rattle.form_faults.specs.declared.sorts.Naming.TheVariants as naming
 use Rattle.form_faults.specs.declared.sorts.Known.{Known}
 use Rattle.form_faults.specs.declared.signatures.Signature.{Signature}
-use Rattle.form_faults.specs.Scopes.{unscoped, Binder, bind_all, twice_all}
+use Rattle.form_faults.specs.Scopes.{unscoped, Binder, bind_all}
 use Rattle.form_faults.specs.Terms.{name_faults, part_faults, parts_faults, term_faults, use_faults, ref_faults}
 use Rattle.form_faults.specs.Operands.{supply_faults, supply_in_faults, supplies_faults, path_faults, pat_binders}
+use Rattle.core_programs.specs.declared.nodes.Arm.{Arm}
 use Rattle.core_programs.specs.declared.nodes.Node.{Node}
 use Rattle.core_programs.specs.declared.nodes.Node.TheVariants as node
-use Rattle.core_programs.specs.Bodies.{opened, opened_at, rest_within}
+use Rattle.core_programs.specs.Bodies.{arms_opened, opened, opened_at, rest_within}
 use Rattle.core_programs.specs.Formed.{nexts}
-use Rattle.core_programs.specs.Trees.{Tree, Grown, at_number, grown_at, tree_within}
-use Rattle.core_programs.specs.Passes.{call_faults, operand_faults, first_binders, second_binders, body_faults}
-use Rattle.frame_laws.specs.Needs.{needs}
+use Rattle.core_programs.specs.Trees.{Tree, grown_at, tree_within}
+use Rattle.core_programs.specs.Passes.{call_faults, operand_faults, arm_binders, binders_at, body_faults}
+use Rattle.core_programs.proofs.Clean.{operands_clean, body_clean}
+use Rattle.frame_laws.specs.Needs.{needs, arms_need}
 use Rattle.frame_laws.proofs.Tests.{same_is, either, past, none_left, none_right}
 use Rattle.frame_laws.proofs.Variables.{IsVariable, named_variable, was_variable, binds, binds-pattern, binds-append}
 
@@ -68,8 +70,7 @@ mutual
       (in_a_row scope first x (none_left here there none))
       (in_a_row scope second x (none_right here there none))
       is
-  in_a_supply scope (Left' m value) x none is = in_a_row scope value x none is
-  in_a_supply scope (Right' m value) x none is = in_a_row scope value x none is
+  in_a_supply scope (Arm' i m value) x none is = in_a_row scope value x none is
   in_a_supply scope (Sum term) x none is = in_a_term scope term x none is
 
   in_a_row : {m : _} (scope : List Known) (row : Row_of-Supply m) (x : Ident) → supply_in_faults scope row ≡ [] → in_supply x (supply_in row) ≡ true → IsVariable scope x
@@ -95,89 +96,79 @@ behind scope bs x more bound others go = past more bound (λ is other. was_varia
 alone : (b : Bool) → b ≡ false → b || false ≡ false
 alone b other = or_from b false other refl
 
+-- what the arms of a match need
+arms_scoped : (arms : List Arm) (scope : List Known) (at : ℕ → Body) (x : Ident)
+    → ((turn m : ℕ) → slice_get (map (λ arm. arm.next) arms) turn ≡ Some m → needs (at m) x ≡ true → IsVariable (bind_all scope (arm_binders (slice_get arms turn))) x)
+    → arms_need (arms_opened arms at) x ≡ true → IsVariable scope x
+arms_scoped [] scope at x follow is = cc
+arms_scoped (arm ∷ arms) scope at x follow is =
+    either (needs (at arm.next) x && not (same arm.pat.name x)) (arms_need (arms_opened arms at) x)
+    (behind scope (pat_binders arm.pat) x (needs (at arm.next) x) (same arm.pat.name x) (binds-pattern arm.pat x) (follow 0 arm.next refl))
+    (arms_scoped arms scope at x (λ turn m goes. follow (suc turn) m goes))
+    is
+
 module _ (protos funcs : List Signature) where
   -- what the body of a node needs, where the bodies that follow need variables of their scopes
   node_scoped : (y : Node) (scope : List Known) (at : ℕ → Body) (x : Ident) → operand_faults protos funcs scope y ≡ []
-      → ((m : ℕ) → slice_get (nexts y) 0 ≡ Some m → needs (at m) x ≡ true → IsVariable (bind_all scope (first_binders y)) x)
-      → ((m : ℕ) → slice_get (nexts y) 1 ≡ Some m → needs (at m) x ≡ true → IsVariable (bind_all scope (second_binders y)) x)
+      → ((turn m : ℕ) → slice_get (nexts y) turn ≡ Some m → needs (at m) x ≡ true → IsVariable (bind_all scope (binders_at y turn)) x)
       → needs (opened y at) x ≡ true → IsVariable scope x
-  unfolding operand_faults call_faults first_binders second_binders bind_all
-  node_scoped (node.Let name name_at term next span) scope at x none first second =
+  unfolding operand_faults call_faults binders_at bind_all
+  node_scoped (node.Let name name_at term next span) scope at x none follow =
       either (in_term x (term_of term)) (needs (at next) x && not (same name x))
       (in_a_term scope term x none)
-      (behind scope (first_binders (node.Let name name_at term next span)) x (needs (at next) x) (same name x) (alone (same name x)) (first next refl))
-  node_scoped (node.Mul name name_at left right next span) scope at x none first second =
+      (behind scope (binders_at (node.Let name name_at term next span) 0) x (needs (at next) x) (same name x) (alone (same name x)) (follow 0 next refl))
+  node_scoped (node.Mul name name_at left right next span) scope at x none follow =
       either (in_term x (term_of left) || in_term x (term_of right)) (needs (at next) x && not (same name x))
       (in_terms scope left right x none)
-      (behind scope (first_binders (node.Mul name name_at left right next span)) x (needs (at next) x) (same name x) (alone (same name x)) (first next refl))
-  node_scoped (node.Div name name_at term divisor divisor_at next span) scope at x none first second =
+      (behind scope (binders_at (node.Mul name name_at left right next span) 0) x (needs (at next) x) (same name x) (alone (same name x)) (follow 0 next refl))
+  node_scoped (node.Div name name_at term divisor divisor_at next span) scope at x none follow =
       either (in_term x (term_of term)) (needs (at next) x && not (same name x))
       (in_a_term scope term x (none_left (term_faults naming.Variables scope term) _ none))
-      (behind scope (first_binders (node.Div name name_at term divisor divisor_at next span)) x (needs (at next) x) (same name x) (alone (same name x)) (first next refl))
-  node_scoped (node.Rem name name_at term divisor divisor_at next span) scope at x none first second =
+      (behind scope (binders_at (node.Div name name_at term divisor divisor_at next span) 0) x (needs (at next) x) (same name x) (alone (same name x)) (follow 0 next refl))
+  node_scoped (node.Rem name name_at term divisor divisor_at next span) scope at x none follow =
       either (in_term x (term_of term)) (needs (at next) x && not (same name x))
       (in_a_term scope term x (none_left (term_faults naming.Variables scope term) _ none))
-      (behind scope (first_binders (node.Rem name name_at term divisor divisor_at next span)) x (needs (at next) x) (same name x) (alone (same name x)) (first next refl))
-  node_scoped (node.Call pat func func_at values proof next span) scope at x none first second =
+      (behind scope (binders_at (node.Rem name name_at term divisor divisor_at next span) 0) x (needs (at next) x) (same name x) (alone (same name x)) (follow 0 next refl))
+  node_scoped (node.Call pat func func_at values proof next span) scope at x none follow =
       either (in_supplies x (map supply_of values)) (needs (at next) x && not (same pat.name x))
       (in_values scope values x (none_left (supplies_faults scope values) _ (none_right (use_faults funcs func func_at (length values)) _ none)))
-      (behind scope (pat_binders pat) x (needs (at next) x) (same pat.name x) (binds-pattern pat x) (first next refl))
-  node_scoped (node.Tail func func_at values proof span) scope at x none first second =
+      (behind scope (pat_binders pat) x (needs (at next) x) (same pat.name x) (binds-pattern pat x) (follow 0 next refl))
+  node_scoped (node.Tail func func_at values proof span) scope at x none follow =
       in_values scope values x (none_left (supplies_faults scope values) _ (none_right (use_faults funcs func func_at (length values)) _ none))
-  node_scoped (node.Fork name name_at proto func func_at values proof next span) scope at x none first second =
+  node_scoped (node.Fork name name_at proto func func_at values proof next span) scope at x none follow =
       let called = none_right (ref_faults protos scope proto) _ none in
       either (in_supplies x (map supply_of values)) (needs (at next) x && not (same name x))
       (in_values scope values x (none_left (supplies_faults scope values) _ (none_right (use_faults funcs func func_at (length values + 1)) _ called)))
-      (behind scope (first_binders (node.Fork name name_at proto func func_at values proof next span)) x (needs (at next) x) (same name x) (alone (same name x)) (first next refl))
-  node_scoped (node.Send1 channel channel_at path path_at value proof next span) scope at x none first second =
+      (behind scope (binders_at (node.Fork name name_at proto func func_at values proof next span) 0) x (needs (at next) x) (same name x) (alone (same name x)) (follow 0 next refl))
+  node_scoped (node.Send1 channel channel_at path path_at value proof next span) scope at x none follow =
       let its_channel = unscoped naming.Variables scope channel channel_at in
       let its_value = none_right (path_faults path path_at span) _ (none_right its_channel _ none) in
       either (same x channel || in_supply x (supply_of value)) (needs (at next) x)
       (either (same x channel) (in_supply x (supply_of value))
       (same_variable scope x channel channel_at (none_left its_channel _ none))
       (in_a_supply scope value x (none_left (supply_faults scope value) _ its_value)))
-      (first next refl)
-  node_scoped (node.Recv1 pat channel channel_at path path_at proof next span) scope at x none first second =
+      (follow 0 next refl)
+  node_scoped (node.Recv1 pat channel channel_at path path_at proof next span) scope at x none follow =
       either (same x channel) (needs (at next) x && not (same pat.name x))
       (same_variable scope x channel channel_at (none_left (unscoped naming.Variables scope channel channel_at) _ none))
-      (behind scope (pat_binders pat) x (needs (at next) x) (same pat.name x) (binds-pattern pat x) (first next refl))
-  node_scoped (node.Print term next span) scope at x none first second =
-      either (in_term x (term_of term)) (needs (at next) x) (in_a_term scope term x none) (first next refl)
-  node_scoped (node.If left right this other span) scope at x none first second =
+      (behind scope (pat_binders pat) x (needs (at next) x) (same pat.name x) (binds-pattern pat x) (follow 0 next refl))
+  node_scoped (node.Print term next span) scope at x none follow =
+      either (in_term x (term_of term)) (needs (at next) x) (in_a_term scope term x none) (follow 0 next refl)
+  node_scoped (node.If left right this other span) scope at x none follow =
       either (in_term x (term_of left) || in_term x (term_of right)) (needs (at this) x || needs (at other) x)
       (in_terms scope left right x none)
-      (either (needs (at this) x) (needs (at other) x) (first this refl) (second other refl))
-  node_scoped (node.Split one two name name_at next span) scope at x none first second =
+      (either (needs (at this) x) (needs (at other) x) (follow 0 this refl) (follow 1 other refl))
+  node_scoped (node.Split one two name name_at next span) scope at x none follow =
       either (same x name) (needs (at next) x && not (same one.name x || same two.name x))
       (same_variable scope x name name_at none)
       (behind scope (pat_binders one ++ pat_binders two) x (needs (at next) x) (same one.name x || same two.name x)
       (λ others. let both = or_parts (same one.name x) (same two.name x) others in
       binds-append (pat_binders one) (pat_binders two) x (binds-pattern one x both.0) (binds-pattern two x both.1))
-      (first next refl))
-  node_scoped (node.Match name name_at left this right other span) scope at x none first second =
-      either (same x name) ((needs (at this) x && not (same left.name x)) || (needs (at other) x && not (same right.name x)))
-      (same_variable scope x name name_at none)
-      (either (needs (at this) x && not (same left.name x)) (needs (at other) x && not (same right.name x))
-      (behind scope (pat_binders left) x (needs (at this) x) (same left.name x) (binds-pattern left x) (first this refl))
-      (behind scope (pat_binders right) x (needs (at other) x) (same right.name x) (binds-pattern right x) (second other refl)))
-  node_scoped (node.Absurd proof span) scope at x none first second = λ is. cc
-  node_scoped (node.Ret value proof span) scope at x none first second = in_a_supply scope value x (none_left (supply_faults scope value) _ none)
-
-  -- what a body without faults is made of has none
-  pub parts_clean : (scope : List Known) (y : Node) (first second : Tree) → body_faults protos funcs scope (Grown y first second) ≡ []
-      → (operand_faults protos funcs scope y ≡ []) × (body_faults protos funcs (bind_all scope (first_binders y)) first ≡ []) × (body_faults protos funcs (bind_all scope (second_binders y)) second ≡ [])
-  unfolding body_faults
-  parts_clean scope y first second none =
-      let operands = operand_faults protos funcs scope y in
-      let one = twice_all scope (first_binders y) in
-      let two = twice_all scope (second_binders y) in
-      let here = body_faults protos funcs (bind_all scope (first_binders y)) first in
-      let there = body_faults protos funcs (bind_all scope (second_binders y)) second in
-      let bodies = none_right operands ((one ++ here) ++ (two ++ there)) none in (
-        none_left operands ((one ++ here) ++ (two ++ there)) none,
-        none_right one here (none_left (one ++ here) (two ++ there) bodies),
-        none_right two there (none_right (one ++ here) (two ++ there) bodies),
-      )
+      (follow 0 next refl))
+  node_scoped (node.Match name name_at arms span) scope at x none follow =
+      either (same x name) (arms_need (arms_opened arms at) x) (same_variable scope x name name_at none) (arms_scoped arms scope at x follow)
+  node_scoped (node.Absurd proof span) scope at x none follow = λ is. cc
+  node_scoped (node.Ret value proof span) scope at x none follow = in_a_supply scope value x (none_left (supply_faults scope value) _ none)
 
   -- the same one node deeper
   one_deeper : (at : ℕ → Body) (trees : ℕ → Tree) (x : Ident)
@@ -185,11 +176,8 @@ module _ (protos funcs : List Signature) where
       → (o : Option Node) (scope : List Known) → body_faults protos funcs scope (grown_at o trees) ≡ [] → needs (opened_at o at) x ≡ true → IsVariable scope x
   one_deeper at trees x scoped None scope none is = cc
   one_deeper at trees x scoped (Some y) scope none is =
-      let clean = parts_clean scope y (at_number (slice_get (nexts y) 0) trees) (at_number (slice_get (nexts y) 1) trees) none in
-      node_scoped y scope at x clean.0
-      (λ m goes. scoped m (bind_all scope (first_binders y)) (subst (λ o. body_faults protos funcs (bind_all scope (first_binders y)) (at_number o trees) ≡ []) goes clean.1))
-      (λ m goes. scoped m (bind_all scope (second_binders y)) (subst (λ o. body_faults protos funcs (bind_all scope (second_binders y)) (at_number o trees) ≡ []) goes clean.2))
-      is
+      node_scoped y scope at x (operands_clean protos funcs trees y scope none)
+      (λ turn m goes. scoped m (bind_all scope (binders_at y turn)) (body_clean protos funcs trees y scope turn m none goes)) is
 
   -- what the body at a number needs is variables of a scope in which it has no faults
   pub body_scoped : (depth : ℕ) (nodes : List Node) (x : Ident) (n : ℕ) (scope : List Known) → body_faults protos funcs scope (tree_within depth nodes n) ≡ []

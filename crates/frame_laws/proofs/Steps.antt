@@ -1,24 +1,24 @@
 -- Each step keeps that frames have the values that they need.
-use Rattle.std.proofs.Common.{◌≡◌, ℕ, suc, int_le, Bool, true, false, cond, not, ◌&&◌, ◌||◌, if◌then◌else◌, List, [], ◌∷◌, length, Option, Some, None, refl, sym, ap, ◌∙◌, subst}
+use Rattle.std.proofs.Common.{◌≡◌, ℕ, zero, suc, int_le, Bool, true, false, cond, not, ◌&&◌, ◌||◌, if◌then◌else◌, List, [], ◌∷◌, map, length, Option, Some, None, refl, sym, ap, ◌∙◌, subst}
 use Rattle.std.specs.List.{AllByRecursion}
 use Rattle.std.specs.Ordering.{nat_cmp, eq_by_cmp}
 use Rattle.std.specs.Cmp.Lexicographic.{slice_cmp, nat_list_cmp_total}
 use Rattle.std.specs.FinMap.{get, insert, get-insert}
 use Rattle.std.proofs.lemmas.Bool.{or_left, or_right, or_from, and_from, not_from_false}
 use Rattle.core_language.specs.Names.{Name, NameMap, Ident, same, child}
-use Rattle.core_language.specs.Programs.{Body, Program, function_named}
+use Rattle.core_language.specs.Programs.{Body, Arms, Program, function_named, arm_list, arm_at}
 use Rattle.core_language.specs.Programs as body
 use Rattle.core_language.specs.Values.{Value}
 use Rattle.core_language.specs.Values as value
 use Rattle.core_language.specs.Computing.{Limits, Depth, Computed, Done, Sticks, Halts, Env, value_of, sum_of, multiplied, divided, left_over, supplied, all_supplied}
 use Rattle.core_language.specs.Configurations.{in_term, in_supply, in_supplies, kept, Caller, Place, Ended, Running, Task, Config}
-use Rattle.core_language.specs.Acts.{Act, with_result, at, bound, params_env, entered, returned, on_end, on_pair, on_sum, forked, act_at, act_of}
+use Rattle.core_language.specs.Acts.{Act, with_result, at, bound, params_env, entered, returned, on_end, on_pair, on_sum, chosen, forked, act_at, act_of}
 use Rattle.core_language.specs.Acts as act
 use Rattle.core_language.specs.Steps.{effect, sent, received, step_at, after_step}
 use Rattle.core_programs.specs.declared.nodes.Parts.{Parts}
 use Rattle.core_programs.specs.Bodies.{program_of}
 use Rattle.core_programs.specs.Form.{IsFormed}
-use Rattle.frame_laws.specs.Needs.{needs}
+use Rattle.frame_laws.specs.Needs.{needs, arms_need}
 use Rattle.frame_laws.specs.Fits.{HasValue, HasValues, StandsAtNode, CallerFits, Fits, FitsAll}
 use Rattle.frame_laws.specs.Calls.{HasFunction}
 use Rattle.frame_laws.specs.Laws.{FitsAfterSteps}
@@ -51,27 +51,24 @@ module _ (parts : Parts) where
   end_fits (Some (value.Int z)) go fits = tt
   end_fits (Some value.Unit) go fits = tt
   end_fits (Some (value.Pair a b)) go fits = tt
-  end_fits (Some (value.Left a)) go fits = tt
-  end_fits (Some (value.Right a)) go fits = tt
+  end_fits (Some (value.Arm i a)) go fits = tt
   end_fits None go fits = tt
 
   pair_fits : (o : Option Value) (go : Value → Value → Act) → ((a b : Value) → ActFits parts (go a b)) → ActFits parts (on_pair o go)
   pair_fits (Some (value.Pair a b)) go fits = fits a b
   pair_fits (Some (value.Int z)) go fits = tt
   pair_fits (Some value.Unit) go fits = tt
-  pair_fits (Some (value.Left a)) go fits = tt
-  pair_fits (Some (value.Right a)) go fits = tt
+  pair_fits (Some (value.Arm i a)) go fits = tt
   pair_fits (Some (value.End c)) go fits = tt
   pair_fits None go fits = tt
 
-  sum_fits : (o : Option Value) (left right : Value → Act) → ((a : Value) → ActFits parts (left a)) → ((a : Value) → ActFits parts (right a)) → ActFits parts (on_sum o left right)
-  sum_fits (Some (value.Left a)) left right this other = this a
-  sum_fits (Some (value.Right a)) left right this other = other a
-  sum_fits (Some (value.Int z)) left right this other = tt
-  sum_fits (Some value.Unit) left right this other = tt
-  sum_fits (Some (value.Pair a b)) left right this other = tt
-  sum_fits (Some (value.End c)) left right this other = tt
-  sum_fits None left right this other = tt
+  sum_fits : (o : Option Value) (go : ℕ → Value → Act) → ((i : ℕ) (a : Value) → ActFits parts (go i a)) → ActFits parts (on_sum o go)
+  sum_fits (Some (value.Arm i a)) go fits = fits i a
+  sum_fits (Some (value.Int z)) go fits = tt
+  sum_fits (Some value.Unit) go fits = tt
+  sum_fits (Some (value.Pair a b)) go fits = tt
+  sum_fits (Some (value.End c)) go fits = tt
+  sum_fits None go fits = tt
 
   -- a frame that goes on at a body with the values that it needs
   goes_on : (next : Body) (env : Env) (callers : List Caller) → StandsAtNode parts next → HasValues next env → AllByRecursion (CallerFits parts) callers → Fits parts (at next env callers)
@@ -110,6 +107,15 @@ module _ (parts : Parts) (formed : IsFormed parts) (limits : Limits) where
   forks_fit : (t : Bool) (child : Name) (parent its : Place) → Fits parts parent → Fits parts its → ActFits parts (if t then act.Fork child parent its else act.IsHalted Depth)
   forks_fit true child parent its first second = (first, second)
   forks_fit false child parent its first second = tt
+
+  arms_fit : (arms : Arms) (i : ℕ) (env : Env) (v : Value) (callers : List Caller) → AllByRecursion (StandsAtNode parts) (map (λ arm. arm.1) (arm_list arms))
+      → ((x : Ident) → arms_need arms x ≡ true → HasValue env x) → AllByRecursion (CallerFits parts) callers → ActFits parts (chosen (arm_at arms i) env callers v)
+  arms_fit body.NoArm i env v callers stands values fit = tt
+  arms_fit (body.Arm pat next more) zero env v callers stands values fit =
+      binds next env pat.name v callers stands.0
+      (λ x need apart. values x (or_left (needs next x && not (same pat.name x)) _ (and_from (needs next x) _ need (not_from_false _ apart)))) fit
+  arms_fit (body.Arm pat next more) (suc i) env v callers stands values fit =
+      arms_fit more i env v callers stands.1 (λ x need. values x (or_right (needs next x && not (same pat.name x)) (arms_need more x) need)) fit
 
   act_fits : (p : Name) (forks : ℕ) (here : Body) (env : Env) (callers : List Caller) → Fits parts (Running here env callers) → ActFits parts (act_at limits (program_of parts) p forks here env callers)
   act_fits p forks (body.Let span y term next) env callers (stands, values, fit) =
@@ -174,11 +180,9 @@ module _ (parts : Parts) (formed : IsFormed parts) (limits : Limits) where
       (λ x need other. bound_value env first.name a x (λ neither.
       values x (later (same x y) (needs next x) (same first.name x || same second.name x) need (or_from (same first.name x) (same second.name x) neither other))))
       fit)
-  act_fits p forks (body.Match span y left this right other) env callers (stands, values, fit) =
-      let both = following (body.Match span y left this right other) stands in
-      sum_fits parts (value_of env y) _ _
-      (λ a. binds this env left.name a callers both.0 (λ x need apart. values x (or_right (same x y) _ (or_left (needs this x && not (same left.name x)) _ (and_from (needs this x) _ need (not_from_false _ apart))))) fit)
-      (λ a. binds other env right.name a callers both.1.0 (λ x need apart. values x (or_right (same x y) _ (later (needs this x && not (same left.name x)) (needs other x) (same right.name x) need apart))) fit)
+  act_fits p forks (body.Match span y arms) env callers (stands, values, fit) =
+      sum_fits parts (value_of env y) _ (λ i v.
+      arms_fit arms i env v callers (following (body.Match span y arms) stands) (λ x need. values x (or_right (same x y) (arms_need arms x) need)) fit)
   act_fits p forks (body.Absurd span proof) env callers fits = tt
   act_fits p forks (body.Ret span supply proof) env callers (stands, values, fit) =
       result_fits parts (supplied limits env supply) (returned callers) (λ v made. returns callers v fit)

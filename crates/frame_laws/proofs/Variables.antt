@@ -4,7 +4,7 @@ use Rattle.std.specs.List.{list_any}
 use Rattle.std.proofs.lemmas.Bool.{or_left, or_right, or_from, or_parts, and_from}
 use Rattle.core_language.specs.Names.{Ident, same}
 use Rattle.core_language.specs.Programs as core
-use Rattle.chan_syntax.specs.declared.identifiers.Span.{Span}
+use Rattle.chan_base.specs.declared.spans.Span.{Span}
 use Rattle.chan_syntax.specs.declared.linear.Bound.{Bound}
 use Rattle.chan_syntax.specs.declared.operands.Pat.{Pat}
 use Rattle.chan_syntax.specs.declared.resources.Param.{Param}

@@ -85,7 +85,7 @@ module _ {T : Type 0} where
         (l ts))
         tt
 
-    module _ {X : Type 0} {Tree : X → Type 0} (firsts : X → List ℕ) (sample : ℕ → T)
+    module _ {X : Type 0} {Tree : X → Type 0} (firsts : X → List ℕ) (sample : ℕ → (T → Bool) → T)
         (calls : (x : X) → Parser T (Tree x)) (below : (A : Type 0) → Grammar T X Tree A → T → Parser T A)
         (Calls : (x : X) → Reading T (Tree x)) (Below : (A : Type 0) → Grammar T X Tree A → Reading T A)
         (some_call : (x : X) → (z : Tree x) × (w : List T) × Calls x z w)
@@ -101,16 +101,16 @@ module _ {T : Type 0} where
 
       pub some : {A : Type 0} (g : Grammar T X Tree A) → fine g ≡ true → (y : A) × (w : List T) × is g y w
       some (pure x) k = (x, [], (refl, refl))
-      some (one c p f) k = let b = both (code (sample c) == c) (p (sample c)) k in (f (sample c), sample c ∷ [], (sample c, refl, eqb-true (code (sample c)) c b.0, b.1, refl))
+      some (one c p f) k = let b = both (code (sample c p) == c) (p (sample c p)) k in (f (sample c p), sample c p ∷ [], (sample c p, refl, eqb-true (code (sample c p)) c b.0, b.1, refl))
       some (seq f a b) k = let w = both (fine a) (fine b) k in let i = some a w.0 in let j = some b w.1 in (f i.0 j.0, i.1 ++ j.1, (i.0, j.0, i.1, j.1, refl, refl, i.2, j.2))
       some (either fs a b) k = let w = both (fine a) (fine b) k in let i = some a w.0 in (i.0, i.1, inl i.2)
       some (many fs f a) k = (f [], [], ([], refl, refl))
       some (call x f) k = let i = some_call x in (f i.0, i.1, (i.0, refl, i.2))
       some (spanned f a) k = let i = some a k in (f i.1 i.0, i.1, (i.0, refl, i.2))
       some (nest {A = P} c a) k =
-          let b = both (code (sample c) == c) (fine a) k in
+          let b = both (code (sample c (λ _. true)) == c) (fine a) k in
           let i = some a b.1 in
-          (i.0, sample c ∷ i.1, (sample c, i.1, refl, eqb-true (code (sample c)) c b.0, under P a i.0 i.1 i.2))
+          (i.0, sample c (λ _. true) ∷ i.1, (sample c (λ _. true), i.1, refl, eqb-true (code (sample c (λ _. true))) c b.0, under P a i.0 i.1 i.2))
 
       module _ (read_is : (A : Type 0) (g : Grammar T X Tree A) → Sound (go g) (is g))
           (calls_live : (x : X) → Lives (calls x) (Calls x))
@@ -140,7 +140,7 @@ module _ {T : Type 0} where
         live (spanned f a) k ts =
             live_after (go a ts) (λ x r. Got (f (take (length ts - length r) ts) x) r) (is a) (is (spanned f a)) ts ts [] refl (λ y v d. (f v y, (y, refl, d))) (λ y r. tt) (live a k ts)
         live (nest {A = P} c a) k ts =
-            let b = both (code (sample c) == c) (fine a) k in
+            let b = both (code (sample c (λ _. true)) == c) (fine a) k in
             let i = some (nest c a) k in
             live_opened c (below P a) (is (nest c a)) i.0 i.1 i.2
             (λ t us e. live_map (below P a t us) (λ y vs. (v : List T) × (vs ≡ t ∷ v) × Below P a y v) (is (nest c a)) (t ∷ us) (λ y vs d. (t, d.0, d.1, e, d.2)) (below_live P a b.1 t us)) ts

@@ -50,15 +50,15 @@ module _ {T X : Type 0} {Tree : X → Type 0} (firsts follows : X → List ℕ) 
   abbrev pub body_decided : (x : X) → Grammar T X Tree (Tree x) → Bool
   body_decided x g = (decided g && not (nullable g)) && (all_in (first firsts g) (firsts x) && all_in (follow g) (follows x))
 
--- Samples: for each code a token of that code.
-module _ {T X : Type 0} {Tree : X → Type 0} (code : T → ℕ) (sample : ℕ → T) where
+-- Samples: for each code and each test a token of that code, which passes the test where one does.
+module _ {T X : Type 0} {Tree : X → Type 0} (code : T → ℕ) (sample : ℕ → (T → Bool) → T) where
   -- Each code that the grammar takes has its sample, which passes the test there, so that whatever is begun can be ended.
   abbrev pub made : {A : Type 0} → Grammar T X Tree A → Bool
   made (pure x) = true
-  made (one c p f) = (code (sample c) == c) && p (sample c)
+  made (one c p f) = (code (sample c p) == c) && p (sample c p)
   made (seq f a b) = made a && made b
   made (either fs a b) = made a && made b
   made (many fs f a) = made a
   made (call x f) = true
   made (spanned f a) = made a
-  made (nest c a) = (code (sample c) == c) && made a
+  made (nest c a) = (code (sample c (λ _. true)) == c) && made a

@@ -20,7 +20,7 @@ body Pair = pair
 
 -- the tokens are their own codes
 abbrev pub brackets : Language ℕ Name Count
-brackets = record { code = λ t. t; firsts = λ _. 0 ∷ []; follows = λ _. []; body = body; sample = λ c. c }
+brackets = record { code = λ t. t; firsts = λ _. 0 ∷ []; follows = λ _. []; body = body; sample = λ c _. c }
 
 -- no tokens have two counts
 abbrev pub IsUnique : Type 0

@@ -18,13 +18,13 @@ finish (Got x (t ∷ rest)) = Bad (t ∷ rest)
 finish (Bad rest) = Bad rest
 finish (Deep rest) = Deep rest
 
--- the names of a grammar with what they stand for, the codes that each may begin with and go on at, and a token for each code
+-- the names of a grammar with what they stand for, the codes that each may begin with and go on at, and a token for each code and test
 pub record Language (T X : Type 0) (Tree : X → Type 0) : Type 1 where
   pub code : T → ℕ
   pub firsts : X → List ℕ
   pub follows : X → List ℕ
   pub body : (x : X) → Grammar T X Tree (Tree x)
-  pub sample : ℕ → T
+  pub sample : ℕ → (T → Bool) → T
 
 module _ {T X : Type 0} {Tree : X → Type 0} (l : Language T X Tree) where
   -- the tests of what a name stands for

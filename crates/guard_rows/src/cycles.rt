@@ -1,7 +1,7 @@
 //! Cases of `guarded`.
 use crate::trees::{end, no_bound, number, proto, unit};
 use chan_base::Memory;
-use chan_syntax::{Equation, Proto, Protos};
+use chan_syntax::{Equation, Ident, Proto, Protos};
 use protocol_guard::{Cycle, GuardFault, guarded};
 use sqlite_items::Items;
 use std::alloc::Global;
@@ -10,15 +10,22 @@ use std::test::Fail;
 /// A protocol, and those that it names: by `if` two, after `send` one, or none where it closes.
 type Row<'a> = (&'a [u8], &'a [&'a [u8]]);
 
+fn branch(alloc: Global, this: &[u8], other: &[u8]) -> Result<Equation, Memory> {
+    Ok(Equation::Branch(
+        number(alloc, 0)?,
+        number(alloc, 0)?,
+        end(alloc, this)?,
+        end(alloc, other)?,
+    ))
+}
+
 fn equation(alloc: Global, named: &[&[u8]]) -> Result<Equation, Memory> {
     match named {
-        [this, other] => Ok(Equation::Branch(
-            number(alloc, 0)?,
-            number(alloc, 0)?,
-            end(alloc, this)?,
-            end(alloc, other)?,
-        )),
-        [next] => Ok(Equation::Send(unit(no_bound(alloc)), Some(end(alloc, next)?))),
+        [this, other] => branch(alloc, this, other),
+        [next] => {
+            let next = end(alloc, next)?;
+            Ok(Equation::Send(unit(no_bound(alloc)), Some(next)))
+        }
         _ => Ok(Equation::Close),
     }
 }
@@ -26,7 +33,8 @@ fn equation(alloc: Global, named: &[&[u8]]) -> Result<Equation, Memory> {
 fn protos(alloc: Global, rows: &[Row<'_>]) -> Result<Protos, Memory> {
     let mut protos: Items<Proto> = Items::new(alloc);
     for (name, named) in rows {
-        protos.push(proto(alloc, name, equation(alloc, named)?)?)?;
+        let name = Ident::from_slice(alloc, name)?;
+        protos.push(proto(alloc, name, equation(alloc, named)?))?;
     }
     Ok(protos)
 }

@@ -1,8 +1,7 @@
 //! Small trees.
-use chan_base::Memory;
+use chan_base::{Memory, Span, Spans};
 use chan_syntax::{
-    Bound, Equation, Ident, Idents, Limits, Part, Proto, Ref, Res, Shape, Span, Spans, Term,
-    TermParts, Terms,
+    Bound, Equation, Ident, Idents, Limits, Part, Proto, Ref, Res, Shape, Term, TermParts, Terms,
 };
 use std::alloc::Global;
 
@@ -55,13 +54,13 @@ pub(crate) fn end(alloc: Global, name: &[u8]) -> Result<Ref, Memory> {
 }
 
 /// A protocol without parameters.
-pub(crate) fn proto(alloc: Global, name: &[u8], equation: Equation) -> Result<Proto, Memory> {
-    Ok(Proto {
-        name: Ident::from_slice(alloc, name)?,
+pub(crate) fn proto(alloc: Global, name: Ident, equation: Equation) -> Proto {
+    Proto {
+        name,
         name_span: NOWHERE,
         params: Idents::new(alloc),
         params_spans: Spans::new(alloc),
         equation,
         span: NOWHERE,
-    })
+    }
 }

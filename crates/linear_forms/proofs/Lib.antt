@@ -7,3 +7,4 @@ pub mod Replaced
 pub mod Fitting
 pub mod Shorts
 pub mod Rebuilt
+pub mod NewNames

@@ -8,8 +8,8 @@ use Rattle.core_language.specs.Names.{Ident}
 use Rattle.core_language.specs.Terms.{Term, Limit}
 use Rattle.core_language.specs.Resources.{Res}
 use Rattle.linear_forms.specs.Terms.{IntVar}
-use Rattle.linear_forms.specs.Substitution.{Scoped, scoped, terms_of_limit, puts, catches, Fits, AllFit, Each, IsRenamed}
-use Rattle.linear_forms.specs.Replacing.{IsShort, IsShortTerm, IsShortLimit, ArePutShort, IsSafe, AreSafe, IsReady, IsReadyLimit, FitsLimit}
+use Rattle.linear_forms.specs.Substitution.{Scoped, scoped, terms_of_limit, puts, catches, Fits, AllFit, Each}
+use Rattle.linear_forms.specs.Replacing.{IsShort, IsShortTerm, IsShortLimit, ArePutShort, IsSafe, AreSafe, IsLonger, IsReady, IsReadyLimit, FitsLimit}
 use Rattle.linear_forms.proofs.Places.{safe_for}
 
 pub each_more : {X : Type 0} (R : X → X → Type 0) (xs ys : List X) (x y : X) → Each R xs ys → R x y → Each R (xs ++ x ∷ []) (ys ++ y ∷ [])
@@ -59,10 +59,11 @@ pub binder_safe : (most : ℕ) (put : List IntVar) (terms : List Scoped) (n : �
 binder_safe most put terms n y z true short is kept made = (short, inr (made refl))
 binder_safe most put terms n y z false short is kept made = (short, inl (kept refl, sym is))
 
-pub binder_renamed : (most : ℕ) (put : List IntVar) (before : List Ident) (res : Res) (n : ℕ) (y z : Ident) (caught : Bool) → IsShort most y → caught ≡ catches put before res y → (caught ≡ false → z ≡ y) → (caught ≡ true → length z ≡ suc most + n) → IsRenamed put before res y z
-binder_renamed most put before res n y z caught short is kept made = record {
+pub binder_longer : (most : ℕ) (put : List IntVar) (before : List Ident) (res : Res) (n : ℕ) (y z : Ident) (caught : Bool) → IsShort most y → caught ≡ catches put before res y → (caught ≡ false → z ≡ y) → (caught ≡ true → length z ≡ suc most + n) → IsLonger most put before res y z
+binder_longer most put before res n y z caught short is kept made = record {
+  short = short;
   kept = λ e. kept (is ∙ e);
-  renamed = λ e same. let long = made (is ∙ e) in let one : length z ≡ length y = ap length same in absurd (omega arith);
+  longer = λ e. let long = made (is ∙ e) in omega arith;
 }
 
 -- ---- terms that are ready

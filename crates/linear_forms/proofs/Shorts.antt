@@ -4,11 +4,11 @@ use Rattle.std.proofs.lemmas.List.{take_more}
 use Rattle.std.proofs.lemmas.List.Elements.{All-nil, All-cons, All-append, All-head, All-tail}
 use Rattle.core_language.specs.Names.{Ident}
 use Rattle.core_language.specs.Terms.{Term}
-use Rattle.core_language.specs.Resources.{Shape, Res}
+use Rattle.core_language.specs.Resources.{Shape, Res, Resources}
 use Rattle.core_language.specs.Resources as resource
 use Rattle.linear_forms.specs.Terms.{IntVar}
 use Rattle.linear_forms.specs.Normal.{names_of}
-use Rattle.linear_forms.specs.Replacing.{IsShort, IsShortTerm, IsShortLimit, IsShortShape, IsShortRes, ArePutShort}
+use Rattle.linear_forms.specs.Replacing.{IsShort, IsShortTerm, IsShortLimit, IsShortShape, IsShortRes, AreShortResources, ArePutShort}
 
 pub all_more : {X : Type 0} (P Q : X → Type 0) (xs : List X) (i : ℕ) (d : X) → i < length xs → ((x : X) → P x → Q x) → All P (take i xs) → Q (get_or xs i d) → All Q (take (i + 1) xs)
 all_more P Q xs i d l h a q =
@@ -41,10 +41,14 @@ mutual
   longer_shape m n (resource.Int t) l h = longer_names m n (names_of t) l h
   longer_shape m n (resource.End r) l h = λ k d b. longer_names m n (names_of (get_or r.args k d)) l (h k d b)
   longer_shape m n (resource.Pair a b) l h = (longer_res m n a l h.0, longer_res m n b l h.1)
-  longer_shape m n (resource.Sum a b) l h = (longer_res m n a l h.0, longer_res m n b l h.1)
+  longer_shape m n (resource.Sum rs) l h = longer_resources m n rs l h
 
   pub longer_res : (m n : ℕ) (r : Res) → m ≤ n → IsShortRes m r → IsShortRes n r
   longer_res m n (resource.Binds b s) l h = (longer_names m n b.names l h.0, longer_limits m n b.limits l h.1, longer_shape m n s l h.2)
+
+  pub longer_resources : (m n : ℕ) (rs : Resources) → m ≤ n → AreShortResources m rs → AreShortResources n rs
+  longer_resources m n resource.NoMore l h = h
+  longer_resources m n (resource.More r rs) l h = (longer_res m n r l h.0, longer_resources m n rs l h.1)
 
 -- names are short where those of each part are
 pub short_parts : (most : ℕ) (ps : Term) → All (λ p. All (IsShort most) (option_to_list p.name)) ps → IsShortTerm most ps

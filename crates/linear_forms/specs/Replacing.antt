@@ -1,13 +1,13 @@
 -- What stands in a resource for its names and binders where terms are put in.
-use Rattle.std.specs.Prelude.{◌≡◌, ◌⊎◌, ℕ, suc, ◌+◌, ◌≤◌, ℤ, ◌*ℤ◌, false, if◌then◌else◌, List, [], ◌∷◌, All, map, flat_map, find, length, Option, Some, None}
+use Rattle.std.specs.Prelude.{◌≡◌, ◌⊎◌, ℕ, suc, ◌+◌, ◌≤◌, ℤ, ◌*ℤ◌, true, false, if◌then◌else◌, List, [], ◌∷◌, All, map, flat_map, find, length, Option, Some, None}
 use Rattle.std.specs.List.{list_any}
 use Rattle.core_language.specs.Names.{Ident, same}
 use Rattle.core_language.specs.Terms.{Part, Term, Limit}
-use Rattle.core_language.specs.Resources.{Shape, Res}
+use Rattle.core_language.specs.Resources.{Shape, Res, Resources}
 use Rattle.core_language.specs.Resources as resource
 use Rattle.linear_forms.specs.Terms.{IntVar, times_of}
 use Rattle.linear_forms.specs.Normal.{names_of}
-use Rattle.linear_forms.specs.Substitution.{Scoped, puts, Fits}
+use Rattle.linear_forms.specs.Substitution.{Scoped, puts, catches, Fits}
 
 -- ---- terms
 
@@ -60,10 +60,14 @@ abbrev mutual
   IsShortShape most (resource.Int t) = IsShortTerm most t
   IsShortShape most (resource.End r) = All (IsShortTerm most) r.args
   IsShortShape most (resource.Pair a b) = IsShortRes most a × IsShortRes most b
-  IsShortShape most (resource.Sum a b) = IsShortRes most a × IsShortRes most b
+  IsShortShape most (resource.Sum rs) = AreShortResources most rs
 
   pub IsShortRes : ℕ → Res → Type 0
   IsShortRes most (resource.Binds b s) = All (IsShort most) b.names × All (IsShortLimit most) b.limits × IsShortShape most s
+
+  pub AreShortResources : ℕ → Resources → Type 0
+  AreShortResources most resource.NoMore = Unit {0}
+  AreShortResources most (resource.More r rs) = IsShortRes most r × AreShortResources most rs
 
 -- the terms for names have short names
 abbrev pub ArePutShort : ℕ → List IntVar → Type 0
@@ -82,6 +86,12 @@ AreSafe most put terms around [] [] = Unit {0}
 AreSafe most put terms around [] (z ∷ zs) = ⊥
 AreSafe most put terms around (y ∷ ys) [] = ⊥
 AreSafe most put terms around (y ∷ ys) (z ∷ zs) = IsSafe most put terms (length ys + around) y z × AreSafe most put terms around ys zs
+
+-- a binder keeps its name, or where it would catch a name it has one longer than all others
+pub record IsLonger (most : ℕ) (put : List IntVar) (before : List Ident) (res : Res) (y z : Ident) : Type 0 where
+  pub short : IsShort most y
+  pub kept : catches put before res y ≡ false → z ≡ y
+  pub longer : catches put before res y ≡ true → suc most ≤ length z
 
 -- ---- places where terms are put in
 

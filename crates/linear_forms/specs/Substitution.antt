@@ -3,7 +3,7 @@ use Rattle.std.specs.Prelude.{◌≡◌, ℕ, suc, nat_eq, ℤ, pos, true, false
 use Rattle.std.specs.List.{list_any}
 use Rattle.core_language.specs.Names.{Ident, same}
 use Rattle.core_language.specs.Terms.{Term, Limit}
-use Rattle.core_language.specs.Resources.{Ref, Shape, Res}
+use Rattle.core_language.specs.Resources.{Ref, Shape, Res, Resources}
 use Rattle.core_language.specs.Resources as resource
 use Rattle.linear_forms.specs.Terms.{IntVar, sum_of, named}
 use Rattle.linear_forms.specs.Normal.{fits, names_of}
@@ -66,11 +66,15 @@ abbrev mutual
   terms_of_shape binders (resource.Int t) = scoped binders (t ∷ [])
   terms_of_shape binders (resource.End r) = scoped binders r.args
   terms_of_shape binders (resource.Pair a b) = terms_of_res binders a ++ terms_of_res binders b
-  terms_of_shape binders (resource.Sum a b) = terms_of_res binders a ++ terms_of_res binders b
+  terms_of_shape binders (resource.Sum rs) = terms_of_resources binders rs
 
   pub terms_of_res : List Ident → Res → List Scoped
   terms_of_res binders (resource.Binds b s) =
       scoped (b.names ++ binders) (flat_map terms_of_limit b.limits) ++ terms_of_shape (b.names ++ binders) s
+
+  pub terms_of_resources : List Ident → Resources → List Scoped
+  terms_of_resources binders resource.NoMore = []
+  terms_of_resources binders (resource.More r rs) = terms_of_res binders r ++ terms_of_resources binders rs
 
 -- ---- binders that would catch a name
 
@@ -96,9 +100,9 @@ Each R [] (y ∷ ys) = ⊥
 Each R (x ∷ xs) [] = ⊥
 Each R (x ∷ xs) (y ∷ ys) = R x y × Each R xs ys
 
--- two names of binders, of a resource under binders
+-- two names of binders, of a resource under binders, and the binders around the second with its own
 abbrev pub OnNames : Type 1
-OnNames = List Ident → Res → Ident → Ident → Type 0
+OnNames = (before scope : List Ident) → Res → Ident → Ident → Type 0
 
 -- two terms, each under binders of its own
 abbrev pub OnTerms : Type 1
@@ -121,17 +125,23 @@ abbrev mutual
   IsShapeLike N T before after (resource.Int t) (resource.Int u) = T before after t u
   IsShapeLike N T before after (resource.End r) (resource.End s) = IsRefLike T before after r s
   IsShapeLike N T before after (resource.Pair a b) (resource.Pair c d) = IsResLike N T before after a c × IsResLike N T before after b d
-  IsShapeLike N T before after (resource.Sum a b) (resource.Sum c d) = IsResLike N T before after a c × IsResLike N T before after b d
+  IsShapeLike N T before after (resource.Sum rs) (resource.Sum ss) = AreResourcesLike N T before after rs ss
   IsShapeLike N T before after _ _ = ⊥
 
   pub IsResLike : OnNames → OnTerms → (before after : List Ident) → Res → Res → Type 0
   IsResLike N T before after (resource.Binds b s) (resource.Binds c t) =
-      Each (N before (resource.Binds b s)) b.names c.names
+      Each (N before (c.names ++ after) (resource.Binds b s)) b.names c.names
       × Each (IsLimitLike T (b.names ++ before) (c.names ++ after)) b.limits c.limits
       × IsShapeLike N T (b.names ++ before) (c.names ++ after) s t
 
+  pub AreResourcesLike : OnNames → OnTerms → (before after : List Ident) → Resources → Resources → Type 0
+  AreResourcesLike N T before after resource.NoMore resource.NoMore = Unit {0}
+  AreResourcesLike N T before after resource.NoMore (resource.More s ss) = ⊥
+  AreResourcesLike N T before after (resource.More r rs) resource.NoMore = ⊥
+  AreResourcesLike N T before after (resource.More r rs) (resource.More s ss) = IsResLike N T before after r s × AreResourcesLike N T before after rs ss
+
 abbrev pub AnyNames : OnNames
-AnyNames before res y z = Unit {0}
+AnyNames before scope res y z = Unit {0}
 
 -- the second resource is the first with the terms put in, up to the names of binders
 abbrev pub IsPutRes : List IntVar → (before after : List Ident) → Res → Res → Type 0
@@ -141,10 +151,25 @@ IsPutRes put = IsResLike AnyNames (IsPutTerm put)
 abbrev pub IsSameRes : Res → Res → Type 0
 IsSameRes = IsPutRes [] [] []
 
--- a binder has another name exactly where it would catch a name of a term that is put in
-pub record IsRenamed (put : List IntVar) (before : List Ident) (res : Res) (y z : Ident) : Type 0 where
+-- how often a name stands in a list
+abbrev pub times_in : Ident → List Ident → ℕ
+times_in x [] = 0
+times_in x (y ∷ ys) = if same x y then suc (times_in x ys) else times_in x ys
+
+-- the names of terms, and of the binders around them
+abbrev pub names_around : List Scoped → List Ident
+names_around terms = flat_map (λ s. s.binders ++ names_of s.term) terms
+
+-- the name is that of one binder alone, and no name of the resource or of a term that is put in
+pub record IsNewName (put : List IntVar) (scope : List Ident) (res : Res) (z : Ident) : Type 0 where
+  pub once : times_in z scope ≡ 1
+  pub elsewhere : times_in z (names_around (terms_of_res [] res) ++ flat_map (λ v. names_of v.term) put) ≡ 0
+
+-- a binder has another name, and a new one, exactly where it would catch a name of a term that is put in
+pub record IsRenamed (put : List IntVar) (before scope : List Ident) (res : Res) (y z : Ident) : Type 0 where
   pub kept : catches put before res y ≡ false → z ≡ y
   pub renamed : catches put before res y ≡ true → z ≡ y → ⊥
+  pub new : catches put before res y ≡ true → IsNewName put scope res z
 
 -- a term with the terms put in, in normal form
 pub record IsNormalPut (put : List IntVar) (before after : List Ident) (t u : Term) : Type 0 where

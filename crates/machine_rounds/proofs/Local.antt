@@ -93,17 +93,17 @@ other_channel C p d k (act.IsHalted why) e = refl
 other_channel C p d k (act.IsStuck why) e = refl
 
 module _ (program : Program) where
-  abbrev after : Config → Name → Config
+  abbrev pub after : Config → Name → Config
   after C p = after_step C (machine_step program C p)
 
-  task_kept : (C : Config) (p q : Name) → alters p (act_in program C p) q ≡ false → get (after C p).tasks q ≡ get C.tasks q
+  pub task_kept : (C : Config) (p q : Name) → alters p (act_in program C p) q ≡ false → get (after C p).tasks q ≡ get C.tasks q
   task_kept C p q e = by (get C.tasks p) e
     where
       by : (o : Option Task) → alters p (act_at program p o) q ≡ false → get (after_step C (step_at machine program C p o)).tasks q ≡ get C.tasks q
       by None e = refl
       by (Some t) e = other_task C p q t.forks (act_at program p (Some t)) e
 
-  channel_kept : (C : Config) (p d : Name) → uses (act_in program C p) d ≡ false → get (after C p).channels d ≡ get C.channels d
+  pub channel_kept : (C : Config) (p d : Name) → uses (act_in program C p) d ≡ false → get (after C p).channels d ≡ get C.channels d
   channel_kept C p d e = by (get C.tasks p) e
     where
       by : (o : Option Task) → uses (act_at program p o) d ≡ false → get (after_step C (step_at machine program C p o)).channels d ≡ get C.channels d

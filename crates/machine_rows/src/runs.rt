@@ -4,7 +4,7 @@ ghost use Rattle.std.specs.Prelude.{◌≤◌};
 use crate::programs::{SENDS_FIVE, is_first, program};
 use chan_base::{Memory, Name};
 use chan_machine::{
-    Ending, Entries, Event, Replayed, Stepped, StuckWhy, Value, look, replay, start, step,
+    Ending, Entries, Event, Halt, Replayed, Stepped, StuckWhy, Value, look, replay, start, step,
 };
 use core_programs::Program;
 use std::alloc::Global;
@@ -92,9 +92,113 @@ fn a_run_ends_stuck_or_out_of_range(rt: HostRuntime) -> Result<(), Fail> {
     let alloc = rt.alloc();
     let ended = ending(alloc, b"fn main() -> unit { absurd }", 9)?;
     assert!(rt; matches!(&ended, Ending::Stuck(_, StuckWhy::Absurd)));
-    let text = b"fn main() -> unit { let a = 9223372036854775807 + 1 - 1; ret () }";
+    let ended = ending(alloc, TOO_LARGE_IN_THE_MIDDLE, 9)?;
+    assert!(rt; matches!(&ended, Ending::Range(_)));
+    Ok(())
+}
+
+/// A product out of range, in a sum that would be 0. The variable is 2 to the 124th.
+const TOO_LARGE_IN_THE_MIDDLE: &[u8] = b"fn main() -> unit {
+let a = mul(4611686018427387904, 4611686018427387904); let b = 8*a - 8*a; ret () }";
+
+#[test]
+fn sums_one_past_their_range_end_a_run(rt: HostRuntime) -> Result<(), Fail> {
+    let alloc = rt.alloc();
+    let text = b"fn main() -> unit {
+let a = mul(4611686018427387904, 4611686018427387904); let b = 4*a + 4*a - 1; ret () }";
     let ended = ending(alloc, text, 9)?;
     assert!(rt; matches!(&ended, Ending::Range(_)));
+    let text = b"fn main() -> unit {
+let a = mul(4611686018427387904, 4611686018427387904); let b = 0 - 4*a - 4*a - 1; ret () }";
+    let ended = ending(alloc, text, 9)?;
+    assert!(rt; matches!(&ended, Ending::Range(_)));
+    Ok(())
+}
+
+/// The first number that the run of the text prints.
+fn printed(alloc: Global, text: &[u8]) -> Result<Option<i128>, Memory> {
+    let program = program(alloc, text)?;
+    let Replayed { config, .. } = replay(alloc, &program, 20)?;
+    match config.prints().get(0) {
+        Some(put) => Ok(Some(put.number)),
+        None => Ok(None),
+    }
+}
+
+#[test]
+fn sums_reach_both_ends_of_their_range(rt: HostRuntime) -> Result<(), Fail> {
+    let alloc = rt.alloc();
+    let text = b"fn main() -> unit {
+let a = mul(4611686018427387904, 4611686018427387904); print 4*a - 1 + 4*a; ret () }";
+    assert_eq!(rt;
+        printed(alloc, text)?,
+        Some(170141183460469231731687303715884105727)
+    );
+    let text = b"fn main() -> unit {
+let a = mul(4611686018427387904, 4611686018427387904); print 0 - 4*a - 4*a; ret () }";
+    assert_eq!(rt;
+        printed(alloc, text)?,
+        Some(-170141183460469231731687303715884105728)
+    );
+    Ok(())
+}
+
+#[test]
+fn the_least_number_is_divided(rt: HostRuntime) -> Result<(), Fail> {
+    let alloc = rt.alloc();
+    let text = b"fn main() -> unit {
+let a = mul(4611686018427387904, 4611686018427387904); let m = 0 - 4*a - 4*a; let q = div(m, 3); print q; ret () }";
+    assert_eq!(rt;
+        printed(alloc, text)?,
+        Some(-56713727820156410577229101238628035243)
+    );
+    let text = b"fn main() -> unit {
+let a = mul(4611686018427387904, 4611686018427387904); let m = 0 - 4*a - 4*a; let r = rem(m, 3); print r; ret () }";
+    assert_eq!(rt; printed(alloc, text)?, Some(1));
+    Ok(())
+}
+
+/// What a look at `main`, or at its first child, answers after so many rounds of the text.
+fn looked(alloc: Global, text: &[u8], rounds: u64, at_main: bool) -> Result<Stepped, Memory>
+    requires { rounds ≤ 1000000000 }
+{
+    let program = program(alloc, text)?;
+    let Replayed { config, .. } = replay(alloc, &program, rounds)?;
+    let main = Name::root(alloc);
+    let name = if at_main { main } else { main.child(alloc, 0)? };
+    let looked = look(alloc, &program, &config, &name)?;
+    Ok(looked)
+}
+
+#[test]
+fn a_look_tells_each_act_of_a_task_alone(rt: HostRuntime) -> Result<(), Fail> {
+    let alloc = rt.alloc();
+    let silent = looked(alloc, TOO_LARGE_IN_THE_MIDDLE, 0, true)?;
+    assert!(rt; matches!(&silent, Stepped::Moved(Event::Silent)));
+    let halts = looked(alloc, TOO_LARGE_IN_THE_MIDDLE, 1, true)?;
+    assert!(rt; matches!(&halts, Stepped::Halts(Halt::Range)));
+    let stuck = looked(alloc, b"fn main() -> unit { absurd }", 0, true)?;
+    assert!(rt; matches!(&stuck, Stepped::Stuck(StuckWhy::Absurd)));
+    let prints = looked(alloc, PRINTS_SEVEN, 0, true)?;
+    assert!(rt; matches!(&prints, Stepped::Moved(Event::Print(7))));
+    let ends = looked(alloc, PRINTS_SEVEN, 1, true)?;
+    assert!(rt; matches!(&ends, Stepped::Moved(Event::End)));
+    let ended = looked(alloc, PRINTS_SEVEN, 2, true)?;
+    assert!(rt; matches!(&ended, Stepped::Ended));
+    Ok(())
+}
+
+#[test]
+fn a_look_tells_each_act_on_a_channel(rt: HostRuntime) -> Result<(), Fail> {
+    let alloc = rt.alloc();
+    let absent = looked(alloc, SENDS_FIVE, 0, false)?;
+    assert!(rt; matches!(&absent, Stepped::Absent));
+    let waits = looked(alloc, SENDS_FIVE, 1, true)?;
+    assert!(rt; matches!(&waits, Stepped::Waits(_)));
+    let sends = looked(alloc, SENDS_FIVE, 1, false)?;
+    assert!(rt; matches!(&sends, Stepped::Moved(Event::Send(_))));
+    let receives = looked(alloc, SENDS_FIVE, 2, true)?;
+    assert!(rt; matches!(&receives, Stepped::Moved(Event::Recv(_))));
     Ok(())
 }
 

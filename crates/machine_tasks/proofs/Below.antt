@@ -11,9 +11,10 @@ use Rattle.core_programs.specs.Bodies.{rest}
 use Rattle.machine_values.specs.declared.binds.Bind.{Bind}
 use Rattle.machine_values.specs.Reading.{env_of, value_as}
 use Rattle.machine_tasks.specs.declared.tasks.Frame.{Frame}
-use Rattle.machine_tasks.specs.Fits.{AtCall, FitFrom, FramesFit}
+use Rattle.machine_tasks.specs.Fits.{AtCall, FitFrom, FramesFit, IsCall}
 use Rattle.machine_tasks.specs.Reading.{caller_at, caller_of, place_from, place_of}
 use Rattle.machine_tasks.specs.Moving.{above, at_node, place_after}
+use Rattle.machine_tasks.specs.Steps.{frame_read}
 
 pub set_mid : {X : Type 0} (front : List X) (x y : X) (after : List X) (n : ℕ) → n ≡ length front → set (front ++ x ∷ after) n y ≡ front ++ y ∷ after
 set_mid [] x y after n is = ap (λ k. set (x ∷ after) k y) is
@@ -141,7 +142,26 @@ module _ (nodes : List Node) where
   pub caller_within : (frames front : List Frame) (f top : Frame) → frames ≡ front ++ f ∷ top ∷ [] → FramesFit nodes frames → f.node < length nodes
   caller_within frames front f top is fits = let (within, (call, callers)) = fit_two frames front f top is fits in call.0
 
+  pub caller_calls : (frames front : List Frame) (f top : Frame) → frames ≡ front ++ f ∷ top ∷ [] → FramesFit nodes frames → IsCall (rest nodes f.node)
+  caller_calls frames front f top is fits = let (within, (call, callers)) = fit_two frames front f top is fits in call.1
+
 -- a frame that was taken away
 pub taken : {X : Type 0} (r : Option X) (xs ys : List X) → IsSome r → xs ≡ ys ++ option_to_list r → (x : X) × (xs ≡ ys ++ x ∷ [])
 taken (Some x) xs ys some is = (x, is)
 taken None xs ys some is = cc
+
+-- the frame below the top one was written
+module _ (nodes : List Node) (before front : List Frame) (f top got h : Frame) (k : ℕ) (is : before ≡ front ++ f ∷ top ∷ []) (long : k ≡ length before) (read : got ≡ get_or before (k - 2) got) where
+  pub below_reads : h.node ≡ got.node → h.binds.items ≡ got.binds.items → map frame_read (set before (k - 2) h) ≡ map frame_read before
+  below_reads node items =
+      let found = found_below nodes before front f top got h k is long read node in
+      let wrote = wrote_below nodes before front f top got h k is long read node in
+      let one : frame_read h ≡ frame_read f =
+      ap (λ n. (n, h.binds.items)) (node ∙ ap (λ x. x.node) found) ∙ ap (λ (bs : List Bind). (f.node, bs)) (items ∙ ap (λ (x : Frame). x.binds.items) found) in
+      ap (map frame_read) wrote ∙ map-append frame_read front (h ∷ top ∷ []) ∙ ap (λ r. map frame_read front ++ r ∷ frame_read top ∷ []) one
+      ∙ sym (map-append frame_read front (f ∷ top ∷ [])) ∙ ap (map frame_read) (sym is)
+
+-- the only frame of a task has no caller
+pub alone : {X : Type 0} (xs front : List X) (x : X) → xs ≡ front ++ x ∷ [] → length xs < 2 → front ≡ []
+alone xs [] x is short = refl
+alone xs (y ∷ front) x is short = let long = ap length is ∙ length-append (y ∷ front) (x ∷ []) in absurd (omega (arith, long, short))

@@ -5,3 +5,7 @@ pub mod Below
 pub mod Params
 pub mod Channels
 pub mod ByKind
+pub mod Arms
+pub mod Unmoved
+pub mod Ends
+pub mod Forms

@@ -58,6 +58,10 @@ kind_at_end (Some (value.End c)) kind = kind
 kind_at_end (Some (value.Int z)) kind = IsStuck core.NotEnd
 kind_at_end (Some value.Unit) kind = IsStuck core.NotEnd
 kind_at_end (Some (value.Pair a b)) kind = IsStuck core.NotEnd
-kind_at_end (Some (value.Left a)) kind = IsStuck core.NotEnd
-kind_at_end (Some (value.Right a)) kind = IsStuck core.NotEnd
+kind_at_end (Some (value.Arm i a)) kind = IsStuck core.NotEnd
 kind_at_end None kind = IsStuck core.NotEnd
+
+-- the kind of a match, where there is an arm with the value's number
+abbrev pub kind_chosen : {A : Type 0} → Option A → Kind
+kind_chosen (Some arm) = Silent
+kind_chosen None = IsStuck core.NotSum

@@ -1,5 +1,5 @@
 -- What becomes of a task's place when its frames change.
-use Rattle.std.specs.Prelude.{ℕ, ◌+◌, ◌≤◌, Bool, if◌then◌else◌, List, [], ◌∷◌, reverse, Option, Some, None, vec_len, vec_capacity}
+use Rattle.std.specs.Prelude.{ℕ, ◌+◌, ◌≤◌, List, [], ◌∷◌, reverse, Option, Some, None, vec_len, vec_capacity}
 use Rattle.core_language.specs.Names.{Ident}
 use Rattle.core_language.specs.Values.{Value}
 use Rattle.core_language.specs.Values as value
@@ -8,10 +8,8 @@ use Rattle.core_language.specs.Acts.{Act, at, bound, returned}
 use Rattle.core_language.specs.Acts as act
 use Rattle.core_programs.specs.declared.nodes.Node.{Node}
 use Rattle.core_programs.specs.Bodies.{rest}
-use Rattle.machine_values.specs.Reading.{env_of, value_as}
+use Rattle.machine_values.specs.Reading.{env_of}
 use Rattle.machine_tasks.specs.declared.tasks.Frame.{Frame}
-use Rattle.machine_tasks.specs.declared.quiet.Side.{Side}
-use Rattle.machine_tasks.specs.declared.quiet.Side.TheVariants as side
 
 -- the top frame at the node
 abbrev pub at_node : List Node → ℕ → Place → Place
@@ -23,10 +21,9 @@ abbrev pub bound_in : Ident → Value → Place → Place
 bound_in x v Ended = Ended
 bound_in x v (Running here env callers) = Running here (bound env x v) callers
 
--- the top frame at one of two nodes
-abbrev pub chosen : List Node → ℕ → ℕ → Bool → Place → Place
-chosen nodes n m first Ended = Ended
-chosen nodes n m first (Running here env callers) = at (if first then rest nodes n else rest nodes m) env callers
+-- the top frame at the node, with one more variable
+abbrev pub place_with : List Node → Ident → Value → ℕ → Place → Place
+place_with nodes x v n place = at_node nodes n (bound_in x v place)
 
 -- the frame on top of the callers, where there is one
 abbrev pub above : List Node → Option Frame → List Caller → Place
@@ -48,6 +45,16 @@ IsQuiet (act.Print z place) = Unit {0}
 IsQuiet act.End = Unit {0}
 IsQuiet other = ⊥
 
+-- the value is there, and a pair
+abbrev pub IsPair : Option Value → Type 0
+IsPair (Some (value.Pair a b)) = Unit {0}
+IsPair other = ⊥
+
+-- the value is there, and an arm
+abbrev pub IsArm : Option Value → Type 0
+IsArm (Some (value.Arm i a)) = Unit {0}
+IsArm other = ⊥
+
 -- the top one of the frames, which are given from it on, has room for so many more variables
 abbrev pub RoomFrom : List Frame → ℕ → Type 0
 RoomFrom [] n = Unit {0}
@@ -55,8 +62,3 @@ RoomFrom (top ∷ callers) n = vec_len top.binds + n ≤ vec_capacity top.binds
 
 abbrev pub HasRoom : List Frame → ℕ → Type 0
 HasRoom frames n = RoomFrom (reverse frames) n
-
--- the sum of which this is the part
-abbrev pub side_value : Side → Value
-side_value (side.Left part) = value.Left (value_as part)
-side_value (side.Right part) = value.Right (value_as part)

@@ -1,25 +1,28 @@
 //! What a task does next, told without memory.
-ghost use Rattle.std.specs.Prelude.{◌≡◌, ℕ, List, length, nat_lt, if◌then◌else◌};
+ghost use Rattle.std.specs.Prelude.{◌≡◌, ℕ, List, true, IfSome, length, nat_lt, slice_get, if◌then◌else◌};
 ghost use Rattle.std.specs.Option.{option_copied, option_map};
-ghost use Rattle.core_language.specs.Programs.{Body, Program as CoreProgram};
-ghost use Rattle.core_language.specs.Computing.{machine, Depth};
+ghost use Rattle.core_language.specs.Programs.{Body, Program as CoreProgram, arm_at};
+ghost use Rattle.core_language.specs.Computing.{machine, Depth, Env};
 ghost use Rattle.core_language.specs.Values as core;
 ghost use Rattle.core_language.specs.Configurations.{Caller, Place};
-ghost use Rattle.core_language.specs.Acts.{act_at as act_at_body, on_pair, on_sum, Silent as Silently};
+ghost use Rattle.core_language.specs.Acts.{act_at as act_at_body, on_pair, on_sum, chosen, Silent as Silently};
 ghost use Rattle.core_language.specs.Endings.{is_nil};
-ghost use Rattle.core_programs.specs.Bodies.{opened};
+ghost use Rattle.core_programs.specs.Bodies.{arms_opened, opened};
 ghost use Rattle.core_programs.specs.Formed.{HasDivisor};
 ghost use Rattle.machine_values.specs.Reading.{env_of, value_as};
 ghost use Rattle.machine_values.specs.Troubles.{computed_of};
 ghost use Rattle.machine_tasks.specs.Reading.{act_in};
 ghost use Rattle.machine_tasks.specs.Fits.{FramesFit};
+ghost use Rattle.machine_values.specs.Cells.{EndTest};
+ghost use Rattle.machine_values.specs.Ends.{ValuePasses};
+ghost use Rattle.machine_tasks.specs.Ends.{TaskPasses};
 ghost use Rattle.machine_tasks.specs.Channels.{has_channel as has_channel_of, channel_in, channel_named, end_name};
-ghost use Rattle.machine_tasks.specs.Kinds.{Silent, End, Fork, IsHalted, kind_as, kind_of, kind_after, kind_at_end, print_after};
+ghost use Rattle.machine_tasks.specs.Kinds.{Silent, End, Fork, IsHalted, kind_as, kind_of, kind_after, kind_at_end, kind_chosen, print_after};
 
 use crate::tasks::Task;
 use chan_base::Name;
 use chan_syntax::Ident;
-use core_programs::{Node, Program};
+use core_programs::{Arm, Node, Program};
 use machine_values::{
     Bind, Channel, Halt, StuckWhy, Trouble, Value, lookup, product_of_sums, quotient, remainder,
     sum, weigh_all, weighed,
@@ -29,7 +32,7 @@ use machine_values::{
 #[derive(Debug, Drop)]
 pub enum Act {
     Silent,
-    Print(i64),
+    Print(i128),
     Fork,
     Send,
     Recv,
@@ -50,7 +53,7 @@ fn after(done: Result<(), Trouble>, act: Act) -> Act
     }
 }
 
-fn after_number(number: Result<i64, Trouble>, act: Act) -> Act
+fn after_number(number: Result<i128, Trouble>, act: Act) -> Act
     ensures { kind_as result ≡ kind_after (computed_of number) (kind_as act) }
 {
     match number {
@@ -60,7 +63,7 @@ fn after_number(number: Result<i64, Trouble>, act: Act) -> Act
     }
 }
 
-fn print(number: Result<i64, Trouble>) -> Act
+fn print(number: Result<i128, Trouble>) -> Act
     ensures { kind_as result ≡ print_after (computed_of number) }
 {
     match number {
@@ -91,7 +94,8 @@ fn at_end(value: Option<&Value>, act: Act) -> Act
 }
 
 fn at_pair(value: Option<&Value>) -> Act
-    ensures { (go : core.Value → core.Value → Place) → kind_as result ≡ kind_of (on_pair (option_map (λ v. value_as v.now) value.entry) (λ a b. Silently (go a b))) }
+    ensures { (go : core.Value → core.Value → Place)
+        → kind_as result ≡ kind_of (on_pair (option_map (λ v. value_as v.now) value.entry) (λ a b. Silently (go a b))) }
 {
     match value {
         Some(Value::Pair(_, _)) => Act::Silent,
@@ -99,12 +103,25 @@ fn at_pair(value: Option<&Value>) -> Act
     }
 }
 
-fn at_sum(value: Option<&Value>) -> Act
-    ensures { (left right : core.Value → Place) → kind_as result ≡ kind_of (on_sum (option_map (λ v. value_as v.now) value.entry) (λ a. Silently (left a)) (λ a. Silently (right a))) }
+/// The act of a match, where there is an arm with the value's number.
+#[tactic(auto, using(crate::proofs::Arms::arm_kinds, std::proofs::lemmas::Grind::common_steps))]
+fn at_arm(arms: &[Arm], number: u8) -> Act
+    ensures { kind_as result ≡ kind_chosen (slice_get arms.now number) }
+{
+    if usize::from(number) < arms.len() {
+        Act::Silent
+    } else {
+        Act::Stuck(StuckWhy::NotSum)
+    }
+}
+
+#[tactic(auto, using(crate::proofs::Arms::arm_kind, std::proofs::lemmas::Grind::common_steps))]
+fn at_sum(value: Option<&Value>, arms: &[Arm]) -> Act
+    ensures { (at : ℕ → Body) (env : Env) (callers : List Caller)
+        → kind_as result ≡ kind_of (on_sum (option_map (λ v. value_as v.now) value.entry) (λ i v. chosen (arm_at (arms_opened arms.now at) i) env callers v)) }
 {
     match value {
-        Some(Value::Left(_)) => Act::Silent,
-        Some(Value::Right(_)) => Act::Silent,
+        Some(Value::Arm(number, _)) => at_arm(arms, *number),
         _ => Act::Stuck(StuckWhy::NotSum),
     }
 }
@@ -146,7 +163,11 @@ fn act_at(name: &Name, node: &Node, binds: &[Bind], last: bool) -> Act
             after_number(sum(binds, right), Act::Silent),
         ),
         Node::Split { name: pair, .. } => at_pair(lookup(binds, pair)),
-        Node::Match { name: choice, .. } => at_sum(lookup(binds, choice)),
+        Node::Match {
+            name: choice,
+            arms,
+            ..
+        } => at_sum(lookup(binds, choice), arms.as_slice()),
         Node::Absurd { .. } => Act::Stuck(StuckWhy::Absurd),
         Node::Ret { value, .. } => after(weighed(binds, value), returned(last)),
     }
@@ -193,7 +214,9 @@ fn channel_name(node: &Node) -> Option<&Ident>
 }
 
 fn end(value: Option<&Value>) -> Option<&Channel>
-    ensures { option_map (λ channel. channel.now.name) result ≡ end_name (option_map (λ v. value_as v.now) value.entry) }
+    ensures name { option_map (λ channel. channel.now.name) result ≡ end_name (option_map (λ v. value_as v.now) value.entry) }
+    ensures cell { (test : EndTest) → IfSome value.entry (λ v. ValuePasses test v.now)
+        → IfSome result (λ channel. test channel.now.name channel.now.cell.0 ≡ true) }
 {
     match value {
         Some(Value::End(channel)) => Some(channel),
@@ -205,7 +228,8 @@ impl Task {
     /// The channel of a task whose act is Send or Recv.
     pub fn channel(&self, program: &Program) -> Option<&Channel>
         requires fits { FramesFit program.now.nodes self.now.frames.items }
-        ensures { option_map (λ channel. channel.now.name) result ≡ channel_in (act_in program.now self.now) }
+        ensures name { option_map (λ channel. channel.now.name) result ≡ channel_in (act_in program.now self.now) }
+        ensures cell { (test : EndTest) → TaskPasses test self.now → IfSome result (λ channel. test channel.now.name channel.now.cell.0 ≡ true) }
     {
         if !has_channel(&self.act(program)) {
             return None;

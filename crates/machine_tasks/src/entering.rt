@@ -1,11 +1,14 @@
 //! A function at its values.
 ghost use Rattle.std.specs.Prelude.{◌≡◌, ◌<◌, List, map, length, IfOk, IfSome};
-ghost use Rattle.core_language.specs.Programs.{function_named};
 ghost use Rattle.core_language.specs.Configurations.{Caller};
-ghost use Rattle.core_language.specs.Acts.{params_env, entered};
-ghost use Rattle.core_programs.specs.Bodies.{param_of, program_of};
+ghost use Rattle.core_language.specs.Acts.{params_env};
+ghost use Rattle.core_programs.specs.Bodies.{param_of};
+ghost use Rattle.machine_values.specs.Cells.{EndTest};
+ghost use Rattle.machine_values.specs.Ends.{BindsPass, ValuesPass};
 ghost use Rattle.machine_values.specs.Reading.{env_of, value_as};
+ghost use Rattle.machine_tasks.specs.Ends.{FramePasses};
 ghost use Rattle.machine_tasks.specs.Moving.{above};
+ghost use Rattle.machine_tasks.specs.Steps.{called};
 
 use crate::moving::keep;
 use crate::tasks::Frame;
@@ -17,7 +20,8 @@ use std::alloc::Global;
 
 /// The parameters with their values.
 fn bind_params(alloc: Global, params: &[Param], values: Values) -> Result<Binds, Memory>
-    ensures { IfOk result (λ binds. env_of binds.items ≡ params_env (map param_of params.now) (map value_as values.items)) }
+    ensures binds { IfOk result (λ binds. env_of binds.items ≡ params_env (map param_of params.now) (map value_as values.items)) }
+    ensures ends { IfOk result (λ binds. (test : EndTest) → ValuesPass test values.items → BindsPass test binds.items) }
 {
     let mut binds = Vec::new(alloc);
     'values: for value in values {
@@ -37,8 +41,10 @@ pub(crate) fn enter(
     func: &Ident,
     values: Values,
 ) -> Result<Option<Frame>, Memory>
-    ensures entered { IfOk result (λ frame. (callers : List Caller) → entered (function_named func.now (program_of program.now).funcs) (map value_as values.items) callers ≡ above program.now.nodes frame callers) }
+    ensures entered { IfOk result (λ frame. (callers : List Caller)
+        → called program.now func.now values.items callers ≡ above program.now.nodes frame callers) }
     ensures stands { IfOk result (λ frame. IfSome frame (λ f. f.node < length program.now.nodes)) }
+    ensures ends { IfOk result (λ frame. (test : EndTest) → ValuesPass test values.items → IfSome frame (FramePasses test)) }
 {
     match program.func(func) {
         Some(function) => {

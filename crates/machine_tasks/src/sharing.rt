@@ -1,21 +1,21 @@
 //! Steps that concern other tasks: forks, sends and receives.
-ghost use Rattle.std.specs.Prelude.{◌≡◌, ◌<◌, suc, [], ◌∷◌, map, length, IfOk, IfErr};
-ghost use Rattle.core_language.specs.Programs.{function_named};
-ghost use Rattle.core_language.specs.Values as core;
-ghost use Rattle.core_language.specs.Acts.{entered};
-ghost use Rattle.core_programs.specs.Bodies.{program_of};
-ghost use Rattle.machine_values.specs.Reading.{value_as};
+ghost use Rattle.std.specs.Prelude.{◌≡◌, ◌<◌, suc, [], ◌∷◌, length, IfOk, IfErr};
+ghost use Rattle.machine_values.specs.Cells.{End, EndTest};
+ghost use Rattle.machine_values.specs.Ends.{ValuePasses, ValuesPass};
+ghost use Rattle.machine_values.specs.Reading.{celled_of, value_as};
+ghost use Rattle.machine_tasks.specs.Ends.{FramesPass, TaskPasses};
 ghost use Rattle.machine_tasks.specs.Fits.{FramesFit};
 ghost use Rattle.machine_tasks.specs.Reading.{act_in, place_of, IsTask};
-ghost use Rattle.machine_tasks.specs.Moving.{HasRoom};
-ghost use Rattle.machine_tasks.specs.Sharing.{Branches, Forked, IsFork, IsRecv, IsSend, Received, Receives, Sends, Sent, place_with};
+ghost use Rattle.machine_tasks.specs.Moving.{HasRoom, place_with};
+ghost use Rattle.machine_tasks.specs.Sharing.{Branches, Forked, IsFork, IsRecv, IsSend, Received, Receives, Sends, Sent};
+ghost use Rattle.machine_tasks.specs.Steps.{FitsTask, GoesTo, IsUnmoved, called, place_in};
 
 use crate::entering::enter;
 use crate::tasks::{Frames, Task};
 use chan_base::{Memory, Name, Number};
 use chan_syntax::Ident;
 use core_programs::{Node, Program};
-use machine_values::{Bind, Channel, Value, Values, lookup, make, make_all};
+use machine_values::{Bind, Channel, Value, Values, make, make_all};
 use std::alloc::Global;
 
 /// What a fork makes: the new task, and its parent's end of the new channel with the node at which
@@ -55,9 +55,9 @@ pub struct Sending {
     pub value: Value,
 }
 
-/// The end of the channel with this name.
+/// The end of the channel with this name and cell.
 fn end_of(alloc: Global, name: &Name, cell: Number) -> Result<Value, Memory>
-    ensures { IfOk result (λ value. value_as value ≡ core.End name.now) }
+    ensures { IfOk result (λ value. celled_of value ≡ End name.now cell.0) }
 {
     let name = name.copy(alloc)?;
     Ok(Value::End(Channel { name, cell }))
@@ -71,8 +71,9 @@ fn first_frames(
     end: Value,
     values: Values,
 ) -> Result<Frames, Memory>
-    ensures place { IfOk result (λ frames. entered (function_named func.now (program_of program.now).funcs) (value_as end ∷ map value_as values.items) [] ≡ place_of program.now.nodes frames.items) }
+    ensures place { IfOk result (λ frames. called program.now func.now (end ∷ values.items) [] ≡ place_of program.now.nodes frames.items) }
     ensures fits { IfOk result (λ frames. FramesFit program.now.nodes frames.items) }
+    ensures ends { IfOk result (λ frames. (test : EndTest) → ValuePasses test end → ValuesPass test values.items → FramesPass test frames.items) }
 {
     let mut values = values;
     values.insert(0, end)?;
@@ -84,18 +85,19 @@ fn first_frames(
 }
 
 impl Task {
-    /// What the task's fork makes. An act of another kind makes nothing.
+    /// What the fork of a task makes whose act is Fork.
     pub fn offspring(
         &self,
         alloc: Global,
         program: &Program,
         cell: Number,
     ) -> Result<Offspring, Memory>
-        requires fits { FramesFit program.now.nodes self.now.frames.items }
-        ensures { IfOk result (λ made. Branches program.now self.now made) }
+        requires fits { FitsTask program.now self.now }
+        requires act { IsFork (act_in program.now self.now) }
+        ensures { IfOk result (λ made. Branches program.now self.now cell.0 made) }
     {
         let Some(frame) = self.top() else {
-            return Err(Memory);
+            unreachable!();
         };
         let Node::Fork {
             name,
@@ -105,14 +107,9 @@ impl Task {
             ..
         } = program.node(frame.node)
         else {
-            return Err(Memory);
+            unreachable!();
         };
-        let Ok(values) = make_all(alloc, frame.binds.as_slice(), values.as_slice())? else {
-            return Err(Memory);
-        };
-        if self.name.parts() >= 1024 {
-            return Err(Memory);
-        }
+        let values = make_all(alloc, frame.binds.as_slice(), values.as_slice())?.unwrap();
         let child = self.name.child(alloc, self.forks)?;
         let end = end_of(alloc, &child, cell)?;
         let frames = first_frames(alloc, program, func, end, values)?;
@@ -129,65 +126,46 @@ impl Task {
         })
     }
 
-    /// What the task's send puts on its channel. An act of another kind makes nothing.
+    /// What a task whose act is Send puts on its channel.
     pub fn parcel(&self, alloc: Global, program: &Program) -> Result<Parcel, Memory>
-        requires fits { FramesFit program.now.nodes self.now.frames.items }
+        requires fits { FitsTask program.now self.now }
+        requires act { IsSend (act_in program.now self.now) }
         ensures { IfOk result (λ parcel. Sends program.now self.now parcel) }
     {
         let Some(frame) = self.top() else {
-            return Err(Memory);
+            unreachable!();
         };
-        let Node::Send1 {
-            channel,
-            value,
-            next,
-            ..
-        } = program.node(frame.node)
-        else {
-            return Err(Memory);
+        let Node::Send1 { value, next, .. } = program.node(frame.node) else {
+            unreachable!();
         };
-        let binds = frame.binds.as_slice();
-        let Ok(value) = make(alloc, binds, value)? else {
-            return Err(Memory);
-        };
-        match lookup(binds, channel) {
-            Some(Value::End(_)) => Ok(Parcel { value, next: *next }),
-            _ => Err(Memory),
-        }
+        let value = make(alloc, frame.binds.as_slice(), value)?.unwrap();
+        Ok(Parcel { value, next: *next })
     }
 
-    /// The variable that the task's receive binds. An act of another kind binds nothing.
+    /// The variable that a task whose act is Recv binds.
     pub fn slot(&self, alloc: Global, program: &Program) -> Result<Slot, Memory>
-        requires fits { FramesFit program.now.nodes self.now.frames.items }
+        requires fits { FitsTask program.now self.now }
+        requires act { IsRecv (act_in program.now self.now) }
         ensures { IfOk result (λ slot. Receives program.now self.now slot) }
     {
         let Some(frame) = self.top() else {
-            return Err(Memory);
+            unreachable!();
         };
-        let Node::Recv1 {
-            pat,
-            channel,
-            next,
-            ..
-        } = program.node(frame.node)
-        else {
-            return Err(Memory);
+        let Node::Recv1 { pat, next, .. } = program.node(frame.node) else {
+            unreachable!();
         };
         let name = pat.name.copy(alloc)?;
-        match lookup(frame.binds.as_slice(), channel) {
-            Some(Value::End(_)) => Ok(Slot { name, next: *next }),
-            _ => Err(Memory),
-        }
+        Ok(Slot { name, next: *next })
     }
 
     /// The task, whose top frame has room, goes on with one more variable.
     pub fn accept(&mut self, program: &Program, bind: Bind, next: u32)
         requires next { next < length program.now.nodes }
         requires room { HasRoom self.old.frames.items 1 }
-        ensures place { place_of program.now.nodes self.new.frames.items ≡ place_with program.now.nodes bind.name (value_as bind.value) next (place_of program.now.nodes self.old.frames.items) }
-        ensures fits { FramesFit program.now.nodes self.old.frames.items → FramesFit program.now.nodes self.new.frames.items }
-        ensures name { self.new.name ≡ self.old.name }
-        ensures forks { self.new.forks ≡ self.old.forks }
+        requires fits { FitsTask program.now self.old }
+        ensures goes { GoesTo program.now self.old self.new
+            (place_with program.now.nodes bind.name (value_as bind.value) next (place_in program.now self.old)) }
+        ensures ends { (test : EndTest) → ValuePasses test bind.value → TaskPasses test self.old → TaskPasses test self.new }
     {
         self.bind(bind);
         self.go_on(program, next);
@@ -198,10 +176,10 @@ impl Task {
         requires next { next < length program.now.nodes }
         requires room { HasRoom self.old.frames.items 1 }
         requires forks { self.old.forks < 4294967295 }
-        ensures place { place_of program.now.nodes self.new.frames.items ≡ place_with program.now.nodes end.name (value_as end.value) next (place_of program.now.nodes self.old.frames.items) }
-        ensures fits { FramesFit program.now.nodes self.old.frames.items → FramesFit program.now.nodes self.new.frames.items }
-        ensures name { self.new.name ≡ self.old.name }
-        ensures forks { self.new.forks ≡ suc self.old.forks }
+        requires fits { FitsTask program.now self.old }
+        ensures goes { IsTask program.now self.new self.old.name (suc self.old.forks)
+            (place_with program.now.nodes end.name (value_as end.value) next (place_in program.now self.old)) }
+        ensures ends { (test : EndTest) → ValuePasses test end.value → TaskPasses test self.old → TaskPasses test self.new }
     {
         self.forks += 1;
         self.accept(program, end, next);
@@ -210,11 +188,11 @@ impl Task {
     /// Makes the step of a task whose act is Fork. The end that each of the two tasks gets has this
     /// cell.
     pub fn fork(mut self, alloc: Global, program: &Program, cell: Number) -> Result<Twins, Task>
-        requires fits { FramesFit program.now.nodes self.frames.items }
+        requires fits { FitsTask program.now self }
         requires act { IsFork (act_in program.now self) }
         requires forks { self.forks < 4294967295 }
-        ensures ok { IfOk result (λ twins. Forked program.now self twins) }
-        ensures err { IfErr result (λ t. IsTask program.now t self.name self.forks (place_of program.now.nodes self.frames.items)) }
+        ensures ok { IfOk result (λ twins. Forked program.now self cell.0 twins) }
+        ensures err { IfErr result (λ t. IsUnmoved self t) }
     {
         if self.make_room(1).is_err() {
             return Err(self);
@@ -234,10 +212,10 @@ impl Task {
 
     /// Makes the step of a task whose act is Send, and gives the value that it sends.
     pub fn send(mut self, alloc: Global, program: &Program) -> Result<Sending, Task>
-        requires fits { FramesFit program.now.nodes self.frames.items }
+        requires fits { FitsTask program.now self }
         requires act { IsSend (act_in program.now self) }
         ensures ok { IfOk result (λ sending. Sent program.now self sending) }
-        ensures err { IfErr result (λ t. IsTask program.now t self.name self.forks (place_of program.now.nodes self.frames.items)) }
+        ensures err { IfErr result (λ t. IsUnmoved self t) }
     {
         match self.parcel(alloc, program) {
             Ok(parcel) => {
@@ -256,10 +234,10 @@ impl Task {
         program: &Program,
         value: Value,
     ) -> Result<Task, Sending>
-        requires fits { FramesFit program.now.nodes self.frames.items }
+        requires fits { FitsTask program.now self }
         requires act { IsRecv (act_in program.now self) }
-        ensures ok { IfOk result (λ t. Received program.now self (value_as value) t) }
-        ensures err { IfErr result (λ sending. IsTask program.now sending.task self.name self.forks (place_of program.now.nodes self.frames.items)) }
+        ensures ok { IfOk result (λ t. Received program.now self value t) }
+        ensures err { IfErr result (λ sending. IsUnmoved self sending.task) }
         ensures value { IfErr result (λ sending. sending.value ≡ value) }
     {
         if self.make_room(1).is_err() {

@@ -1,2 +1,1 @@
-pub mod ReadSupplies
 pub mod Weighing

@@ -1,8 +1,8 @@
 -- The depth of a supplied value from those of its parts.
-use Rattle.std.proofs.Common.{Err, List, drop, get_or, length, ◌∷◌, ◌≡◌, ℕ, suc, ◌+◌, ◌<◌, max, min, nat_le, nat_lt, Bool, true, false, cond, refl, sym, ap, ◌∙◌, arith}
+use Rattle.std.proofs.Common.{Err, List, drop, get_or, length, [], ◌∷◌, ◌++◌, append_assoc, ◌≡◌, ℕ, suc, ◌+◌, ◌<◌, max, min, nat_le, nat_lt, Bool, true, false, cond, refl, sym, ap, ◌∙◌, arith}
 use Rattle.std.proofs.lemmas.Bool.Decides.{nat_tests}
 use Rattle.std.proofs.lemmas.List.{drop_more}
-use Rattle.core_language.specs.Values.{Value, Pair, Left, Right, depth, is_shallow}
+use Rattle.core_language.specs.Values.{Value, Pair, Arm, depth, is_shallow}
 use Rattle.core_language.specs.Computing.{Computed, Done, Sticks, Halts, Deep, and_then, shallow}
 use Rattle.machine_values.specs.Troubles.{computed_of, depth_of, nested_of, done_of}
 use Rattle.machine_values.specs.declared.computing.Trouble.{Trouble}
@@ -43,15 +43,10 @@ weighs_pair (Done a) (Halts why) = refl
 weighs_pair (Sticks why) u = refl
 weighs_pair (Halts why) u = refl
 
-pub weighs_left : (m : Computed Value) → and_then (depth_of m) nested_of ≡ depth_of (and_then m (λ a. shallow (Left a)))
-weighs_left (Done a) = sym (nests (Left a) (depth a) (min (depth a) 257) refl refl)
-weighs_left (Sticks why) = refl
-weighs_left (Halts why) = refl
-
-pub weighs_right : (m : Computed Value) → and_then (depth_of m) nested_of ≡ depth_of (and_then m (λ a. shallow (Right a)))
-weighs_right (Done a) = sym (nests (Right a) (depth a) (min (depth a) 257) refl refl)
-weighs_right (Sticks why) = refl
-weighs_right (Halts why) = refl
+pub weighs_arm : (i : ℕ) (m : Computed Value) → and_then (depth_of m) nested_of ≡ depth_of (and_then m (λ a. shallow (Arm i a)))
+weighs_arm i (Done a) = sym (nests (Arm i a) (depth a) (min (depth a) 257) refl refl)
+weighs_arm i (Sticks why) = refl
+weighs_arm i (Halts why) = refl
 
 pub weighs_done : (m : Computed Value) → done_of (depth_of m) ≡ done_of m
 weighs_done (Done a) = refl
@@ -74,6 +69,16 @@ stops (trouble.Halts why) m u is = ap (λ c. and_then c (λ _. done_of u)) is �
 
 pub passes : (m : Computed Value) (u : Computed (List Value)) → Done (tt {0}) ≡ done_of m → done_of (and_then m (λ v. and_then u (λ vs. Done (v ∷ vs)))) ≡ done_of u
 passes m u is = weighs_all m u ∙ ap (λ c. and_then c (λ _. done_of u)) (sym is)
+
+-- the values so far, one more, and those of the rest
+more_made : (v : Value) (vs : List Value) (u : Computed (List Value)) → and_then (and_then u (λ ws. Done (v ∷ ws))) (λ ws. Done (vs ++ ws)) ≡ and_then u (λ ws. Done ((vs ++ v ∷ []) ++ ws))
+more_made v vs (Done ws) = ap Done (sym (append_assoc vs (v ∷ []) ws))
+more_made v vs (Sticks why) = refl
+more_made v vs (Halts why) = refl
+
+pub makes_more : (m : Computed Value) (u : Computed (List Value)) (v : Value) (vs : List Value) → m ≡ Done v
+    → and_then (and_then m (λ w. and_then u (λ ws. Done (w ∷ ws)))) (λ ws. Done (vs ++ ws)) ≡ and_then u (λ ws. Done ((vs ++ v ∷ []) ++ ws))
+makes_more m u v vs is = ap (λ c. and_then (and_then c (λ w. and_then u (λ ws. Done (w ∷ ws)))) (λ ws. Done (vs ++ ws))) is ∙ more_made v vs u
 
 -- the rest of a list begins with the element that was read
 pub next_is : {X : Type 0} (xs : List X) (i : ℕ) (x : X) → i < length xs → x ≡ get_or xs i x → drop i xs ≡ x ∷ drop (i + 1) xs

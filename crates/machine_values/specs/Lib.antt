@@ -1,3 +1,5 @@
+pub mod Cells
 pub mod ValueCode
 pub mod Reading
+pub mod Ends
 pub mod Troubles

@@ -1,7 +1,9 @@
--- Values, variables and reasons as the core language has them: cells aside.
+-- Values, variables and reasons as the core language has them, and values with their cells.
 use Rattle.std.specs.Prelude.{List, map}
 use Rattle.core_language.specs.Values as core
 use Rattle.core_language.specs.Computing as computing
+use Rattle.machine_values.specs.Cells as cells
+use Rattle.machine_values.specs.Cells.{Celled, uncelled}
 use Rattle.machine_values.specs.declared.values.Value.{Value}
 use Rattle.machine_values.specs.declared.values.Value.TheVariants as value
 use Rattle.machine_values.specs.declared.binds.Bind.{Bind}
@@ -12,13 +14,16 @@ use Rattle.machine_values.specs.declared.stops.Halt.TheVariants as halt
 
 -- ---- values
 
+abbrev pub celled_of : Value → Celled
+celled_of (value.Int number) = cells.Int number
+celled_of value.Unit = cells.Unit
+celled_of (value.Pair first second) = cells.Pair first second
+celled_of (value.Arm number part) = cells.Arm number part
+celled_of (value.End channel) = cells.End channel.name channel.cell.0
+
+-- cells aside
 abbrev pub value_as : Value → core.Value
-value_as (value.Int number) = core.Int number
-value_as value.Unit = core.Unit
-value_as (value.Pair first second) = core.Pair first second
-value_as (value.Left part) = core.Left part
-value_as (value.Right part) = core.Right part
-value_as (value.End channel) = core.End channel.name
+value_as v = uncelled (celled_of v)
 
 -- the variables and their values, in the order in which they were bound
 abbrev pub env_of : List Bind → computing.Env

@@ -1,8 +1,10 @@
 //! What computing the operands of a form comes to.
-ghost use Rattle.std.specs.Prelude.{◌≡◌, ◌<◌, ◌+ℤ◌, ◌-ℤ◌, ◌*ℤ◌};
+ghost use Rattle.std.specs.Prelude.{◌≡◌, ◌<◌, ◌+ℤ◌, ◌-ℤ◌, ◌*ℤ◌, IfSome};
 ghost use Rattle.std.specs.Option.{option_map};
 ghost use Rattle.core_language.specs.Computing.{machine, value_of, as_int, checked, joined, product as product_of, sum_of, multiplied, divided, left_over};
 ghost use Rattle.chan_syntax.specs.Reading.{term_of};
+ghost use Rattle.machine_values.specs.Cells.{EndTest};
+ghost use Rattle.machine_values.specs.Ends.{BindsPass, ValuePasses};
 ghost use Rattle.machine_values.specs.Reading.{env_of, value_as};
 ghost use Rattle.machine_values.specs.Troubles.{computed_of};
 
@@ -22,7 +24,7 @@ const OUT_OF_RANGE: Trouble = Trouble::Halts(Halt::Range);
 
 pub(crate) const NOT_INT: Trouble = Trouble::Stuck(StuckWhy::NotInt);
 
-fn add(total: i64, number: i64) -> Result<i64, Trouble>
+fn add(total: i128, number: i128) -> Result<i128, Trouble>
     ensures { computed_of result ≡ checked machine (total +ℤ number) }
 {
     match total.checked_add(number) {
@@ -31,7 +33,7 @@ fn add(total: i64, number: i64) -> Result<i64, Trouble>
     }
 }
 
-fn subtract(total: i64, number: i64) -> Result<i64, Trouble>
+fn subtract(total: i128, number: i128) -> Result<i128, Trouble>
     ensures { computed_of result ≡ checked machine (total -ℤ number) }
 {
     match total.checked_sub(number) {
@@ -40,7 +42,7 @@ fn subtract(total: i64, number: i64) -> Result<i64, Trouble>
     }
 }
 
-fn multiply(left: i64, right: i64) -> Result<i64, Trouble>
+fn multiply(left: i128, right: i128) -> Result<i128, Trouble>
     ensures { computed_of result ≡ checked machine (left *ℤ right) }
 {
     match left.checked_mul(right) {
@@ -49,18 +51,17 @@ fn multiply(left: i64, right: i64) -> Result<i64, Trouble>
     }
 }
 
-fn narrow(wide: i128) -> Result<i64, Trouble>
-    ensures { computed_of result ≡ checked machine wide }
+/// A number of 128 bits is within the limits of the machine.
+fn within(number: i128) -> Result<i128, Trouble>
+    ensures { computed_of result ≡ checked machine number }
 {
-    match i64::try_from(wide) {
-        Ok(number) => Ok(number),
-        Err(_) => Err(OUT_OF_RANGE),
-    }
+    Ok(number)
 }
 
 /// The value of the first variable with the name.
 pub fn lookup<'a>(binds: &'a [Bind], name: &Ident) -> Option<&'a Value>
-    ensures { option_map (λ value. value_as value.now) result ≡ value_of (env_of binds.now) name.now }
+    ensures value { option_map (λ value. value_as value.now) result ≡ value_of (env_of binds.now) name.now }
+    ensures ends { (test : EndTest) → BindsPass test binds.now → IfSome result (λ value. ValuePasses test value.now) }
 {
     'binds: for bind in binds {
         if bind.name == *name {
@@ -70,7 +71,7 @@ pub fn lookup<'a>(binds: &'a [Bind], name: &Ident) -> Option<&'a Value>
     None
 }
 
-fn integer(binds: &[Bind], name: &Ident) -> Result<i64, Trouble>
+fn integer(binds: &[Bind], name: &Ident) -> Result<i128, Trouble>
     ensures { computed_of result ≡ as_int (value_of (env_of binds.now) name.now) }
 {
     match lookup(binds, name) {
@@ -79,19 +80,19 @@ fn integer(binds: &[Bind], name: &Ident) -> Result<i64, Trouble>
     }
 }
 
-fn product(binds: &[Bind], part: &Part) -> Result<i64, Trouble>
+fn product(binds: &[Bind], part: &Part) -> Result<i128, Trouble>
     ensures { computed_of result ≡ product_of machine (env_of binds.now) part.now.factor part.now.name }
 {
     match &part.name {
-        None => Ok(part.factor),
+        None => within(i128::from(part.factor)),
         Some(name) => {
             let number = integer(binds, name)?;
-            multiply(part.factor, number)
+            multiply(i128::from(part.factor), number)
         }
     }
 }
 
-fn join(negative: bool, total: i64, number: i64) -> Result<i64, Trouble>
+fn join(negative: bool, total: i128, number: i128) -> Result<i128, Trouble>
     ensures { computed_of result ≡ checked machine (joined negative total number) }
 {
     if negative {
@@ -101,8 +102,8 @@ fn join(negative: bool, total: i64, number: i64) -> Result<i64, Trouble>
     }
 }
 
-/// The sum that the term is, each product and each running sum within 64 bits.
-pub fn sum(binds: &[Bind], term: &Term) -> Result<i64, Trouble>
+/// The sum that the term is, each product and each running sum within 128 bits.
+pub fn sum(binds: &[Bind], term: &Term) -> Result<i128, Trouble>
     ensures { computed_of result ≡ sum_of machine (env_of binds.now) (term_of term.now) }
 {
     let mut total = 0;
@@ -114,7 +115,7 @@ pub fn sum(binds: &[Bind], term: &Term) -> Result<i64, Trouble>
 }
 
 /// The product of the two sums.
-pub fn product_of_sums(binds: &[Bind], left: &Term, right: &Term) -> Result<i64, Trouble>
+pub fn product_of_sums(binds: &[Bind], left: &Term, right: &Term) -> Result<i128, Trouble>
     ensures { computed_of result ≡ multiplied machine (env_of binds.now) (term_of left.now) (term_of right.now) }
 {
     let left = sum(binds, left)?;
@@ -123,19 +124,19 @@ pub fn product_of_sums(binds: &[Bind], left: &Term, right: &Term) -> Result<i64,
 }
 
 /// The quotient, rounded down.
-pub fn quotient(binds: &[Bind], term: &Term, divisor: u64) -> Result<i64, Trouble>
+pub fn quotient(binds: &[Bind], term: &Term, divisor: u64) -> Result<i128, Trouble>
     requires { 0 < divisor }
     ensures { computed_of result ≡ divided machine (env_of binds.now) (term_of term.now) divisor }
 {
     let number = sum(binds, term)?;
-    narrow(i128::from(number).div_euclid(i128::from(divisor)))
+    within(number.div_euclid(i128::from(divisor)))
 }
 
 /// What the division leaves over.
-pub fn remainder(binds: &[Bind], term: &Term, divisor: u64) -> Result<i64, Trouble>
+pub fn remainder(binds: &[Bind], term: &Term, divisor: u64) -> Result<i128, Trouble>
     requires { 0 < divisor }
     ensures { computed_of result ≡ left_over machine (env_of binds.now) (term_of term.now) divisor }
 {
     let number = sum(binds, term)?;
-    narrow(i128::from(number).rem_euclid(i128::from(divisor)))
+    within(number.rem_euclid(i128::from(divisor)))
 }

@@ -1,9 +1,11 @@
 //! The values that supplies make.
-ghost use Rattle.std.specs.Prelude.{◌≡◌, max, map, IfOk};
+ghost use Rattle.std.specs.Prelude.{◌≡◌, max, map, IfOk, IfSome};
 ghost use Rattle.std.specs.Option.{option_copied, option_map};
 ghost use Rattle.core_language.specs.Computing.{machine, Done, and_then, shallow as shallow_of, known, sum_of, bare_part as bare_part_of, bare_name as bare_name_of, term_value, supplied, all_supplied};
-ghost use Rattle.core_language.specs.Values.{Int, Pair, Left, Right};
+ghost use Rattle.core_language.specs.Values.{Int, Pair, Arm};
 ghost use Rattle.chan_syntax.specs.Reading.{term_of, supply_of};
+ghost use Rattle.machine_values.specs.Cells.{EndTest};
+ghost use Rattle.machine_values.specs.Ends.{BindsPass, MadePasses, ValuePasses, ValuesPass};
 ghost use Rattle.machine_values.specs.Reading.{env_of, value_as};
 ghost use Rattle.machine_values.specs.Troubles.{computed_of, depth_of, nested_of, done_of, made_of, all_made_of};
 
@@ -106,15 +108,15 @@ fn weigh(binds: &[Bind], supply: &Supply) -> Result<usize, Trouble>
             let second = weigh(binds, second.get());
             nested_in(deepest_of(first, second))
         }
-        Supply::Left(value) => nested_in(weigh(binds, value.get())),
-        Supply::Right(value) => nested_in(weigh(binds, value.get())),
+        Supply::Arm(_, value) => nested_in(weigh(binds, value.get())),
         Supply::Sum(term) => weigh_term(binds, term),
     }
 }
 
 /// The value, unless it is nested too deep.
 fn shallow(value: Value) -> Result<Value, Trouble>
-    ensures { made_of result ≡ shallow_of (value_as value) }
+    ensures value { made_of result ≡ shallow_of (value_as value) }
+    ensures ends { (test : EndTest) → ValuePasses test value → MadePasses test result }
 {
     if value.depth() < TOO_DEEP {
         Ok(value)
@@ -128,7 +130,8 @@ fn make_pair(
     first: Result<Value, Trouble>,
     second: Result<Value, Trouble>,
 ) -> Result<Result<Value, Trouble>, Memory>
-    ensures { IfOk result (λ made. made_of made ≡ and_then (made_of first) (λ a. and_then (made_of second) (λ b. shallow_of (Pair a b)))) }
+    ensures value { IfOk result (λ made. made_of made ≡ and_then (made_of first) (λ a. and_then (made_of second) (λ b. shallow_of (Pair a b)))) }
+    ensures ends { IfOk result (λ made. (test : EndTest) → MadePasses test first → MadePasses test second → MadePasses test made) }
 {
     match first {
         Ok(first) => match second {
@@ -142,27 +145,17 @@ fn make_pair(
     }
 }
 
-fn make_left(alloc: Global, value: Result<Value, Trouble>) -> Result<Result<Value, Trouble>, Memory>
-    ensures { IfOk result (λ made. made_of made ≡ and_then (made_of value) (λ a. shallow_of (Left a))) }
-{
-    match value {
-        Ok(value) => {
-            let value = Value::left(alloc, value)?;
-            Ok(shallow(value))
-        }
-        Err(trouble) => Ok(Err(trouble)),
-    }
-}
-
-fn make_right(
+fn make_arm(
     alloc: Global,
+    number: u8,
     value: Result<Value, Trouble>,
 ) -> Result<Result<Value, Trouble>, Memory>
-    ensures { IfOk result (λ made. made_of made ≡ and_then (made_of value) (λ a. shallow_of (Right a))) }
+    ensures value { IfOk result (λ made. made_of made ≡ and_then (made_of value) (λ a. shallow_of (Arm number a))) }
+    ensures ends { IfOk result (λ made. (test : EndTest) → MadePasses test value → MadePasses test made) }
 {
     match value {
         Ok(value) => {
-            let value = Value::right(alloc, value)?;
+            let value = Value::arm(alloc, number, value)?;
             Ok(shallow(value))
         }
         Err(trouble) => Ok(Err(trouble)),
@@ -170,7 +163,8 @@ fn make_right(
 }
 
 fn make_sum(binds: &[Bind], term: &Term) -> Result<Value, Trouble>
-    ensures { made_of result ≡ and_then (sum_of machine (env_of binds.now) (term_of term.now)) (λ z. Done (Int z)) }
+    ensures value { made_of result ≡ and_then (sum_of machine (env_of binds.now) (term_of term.now)) (λ z. Done (Int z)) }
+    ensures ends { (test : EndTest) → MadePasses test result }
 {
     match sum(binds, term) {
         Ok(number) => Ok(Value::Int(number)),
@@ -179,7 +173,8 @@ fn make_sum(binds: &[Bind], term: &Term) -> Result<Value, Trouble>
 }
 
 fn make_known(alloc: Global, value: Option<&Value>) -> Result<Result<Value, Trouble>, Memory>
-    ensures { IfOk result (λ made. made_of made ≡ known (option_map (λ v. value_as v.now) value.entry)) }
+    ensures value { IfOk result (λ made. made_of made ≡ known (option_map (λ v. value_as v.now) value.entry)) }
+    ensures ends { IfOk result (λ made. (test : EndTest) → IfSome value.entry (λ v. ValuePasses test v.now) → MadePasses test made) }
 {
     match value {
         Some(value) => {
@@ -191,7 +186,8 @@ fn make_known(alloc: Global, value: Option<&Value>) -> Result<Result<Value, Trou
 }
 
 fn make_term(alloc: Global, binds: &[Bind], term: &Term) -> Result<Result<Value, Trouble>, Memory>
-    ensures { IfOk result (λ made. made_of made ≡ term_value machine (env_of binds.now) (term_of term.now) (bare_name_of (term_of term.now))) }
+    ensures value { IfOk result (λ made. made_of made ≡ term_value machine (env_of binds.now) (term_of term.now) (bare_name_of (term_of term.now))) }
+    ensures ends { IfOk result (λ made. (test : EndTest) → BindsPass test binds.now → MadePasses test made) }
 {
     match bare_name(term) {
         Some(name) => make_known(alloc, lookup(binds, name)),
@@ -205,7 +201,8 @@ pub fn make(
     binds: &[Bind],
     supply: &Supply,
 ) -> Result<Result<Value, Trouble>, Memory>
-    ensures { IfOk result (λ made. made_of made ≡ supplied machine (env_of binds.now) (supply_of supply.now)) }
+    ensures value { IfOk result (λ made. made_of made ≡ supplied machine (env_of binds.now) (supply_of supply.now)) }
+    ensures ends { IfOk result (λ made. (test : EndTest) → BindsPass test binds.now → MadePasses test made) }
 {
     match supply {
         Supply::Unit => Ok(Ok(Value::Unit)),
@@ -214,13 +211,9 @@ pub fn make(
             let second = make(alloc, binds, second.get())?;
             make_pair(alloc, first, second)
         }
-        Supply::Left(value) => {
+        Supply::Arm(number, value) => {
             let value = make(alloc, binds, value.get())?;
-            make_left(alloc, value)
-        }
-        Supply::Right(value) => {
-            let value = make(alloc, binds, value.get())?;
-            make_right(alloc, value)
+            make_arm(alloc, *number, value)
         }
         Supply::Sum(term) => make_term(alloc, binds, term),
     }
@@ -262,7 +255,8 @@ pub fn make_all(
     binds: &[Bind],
     supplies: &[Supply],
 ) -> Result<Result<Values, Trouble>, Memory>
-    ensures { IfOk result (λ made. all_made_of made ≡ all_supplied machine (env_of binds.now) (map supply_of supplies.now)) }
+    ensures values { IfOk result (λ made. all_made_of made ≡ all_supplied machine (env_of binds.now) (map supply_of supplies.now)) }
+    ensures ends { IfOk result (λ made. (test : EndTest) → BindsPass test binds.now → IfOk made (λ vs. ValuesPass test vs.items)) }
 {
     let mut values = Vec::new(alloc);
     'supplies: for supply in supplies {

@@ -1,7 +1,8 @@
 //! The values of a run.
 ghost use Rattle.std.specs.Prelude.{◌≡◌, ◌+◌, min, IfOk};
-ghost use Rattle.core_language.specs.Values.{Pair, Left, Right, depth};
-ghost use Rattle.machine_values.specs.Reading.{value_as};
+ghost use Rattle.core_language.specs.Values.{depth};
+ghost use Rattle.machine_values.specs.Cells.{Pair, Arm, uncelled};
+ghost use Rattle.machine_values.specs.Reading.{celled_of, value_as};
 
 use chan_base::{Memory, Name, Number};
 use std::alloc::Global;
@@ -20,15 +21,14 @@ pub struct Channel {
     pub cell: Number,
 }
 
-/// A value. Copies share its parts.
+/// A value. An arm has its number, from 0. Copies share the parts.
 #[cycle(value)]
 #[derive(Drop)]
 pub enum Value {
-    Int(i64),
+    Int(i128),
     Unit,
     Pair(Shared, Shared),
-    Left(Shared),
-    Right(Shared),
+    Arm(u8, Shared),
     End(Channel),
 }
 
@@ -43,19 +43,20 @@ pub struct Shared {
 impl Model for Shared {
     ghost use Rattle.std.specs.Prelude.{◌≡◌, min};
     ghost use Rattle.core_language.specs.Values as core;
+    ghost use Rattle.machine_values.specs.Cells as cells;
     ghost use Rattle.machine_values.specs.ValueCode.{value_code};
 
-    ghost Value = { core.Value };
+    ghost Value = { cells.Celled };
 
     ghost coded = { value_code };
 
-    ghost use Rattle.machine_values.specs.Reading.{value_as};
+    ghost use Rattle.machine_values.specs.Reading.{celled_of, value_as};
 
-    ghost view = { λ part. value_as part.value.value };
+    ghost view = { λ part. celled_of part.value.value };
 
     ghost invariant = { λ part. part.depth ≡ min (core.depth (value_as part.value.value)) 257 };
 
-    ghost size = { core.depth };
+    ghost size = { λ value. core.depth (cells.uncelled value) };
 
     ghost use Rattle.std.proofs.Common.{arith};
 
@@ -64,7 +65,7 @@ impl Model for Shared {
 
 impl Shared {
     fn new(alloc: Global, value: Value) -> Result<Shared, Memory>
-        ensures { IfOk result (λ part. part ≡ value_as value) }
+        ensures { IfOk result (λ part. part ≡ celled_of value) }
     {
         let depth = value.depth();
         let value = Arc::new(alloc, value)?;
@@ -73,7 +74,7 @@ impl Shared {
 
     /// The value that its copies share.
     pub fn get(&self) -> &Value
-        ensures { value_as result.now ≡ self.now }
+        ensures { celled_of result.now ≡ self.now }
     {
         &self.value
     }
@@ -89,7 +90,7 @@ impl Shared {
     }
 
     fn depth(&self) -> usize
-        ensures { result ≡ min (depth self.now) 257 }
+        ensures { result ≡ min (depth (uncelled self.now)) 257 }
     {
         self.depth
     }
@@ -97,25 +98,18 @@ impl Shared {
 
 impl Value {
     pub fn pair(alloc: Global, first: Value, second: Value) -> Result<Value, Memory>
-        ensures { IfOk result (λ value. value_as value ≡ Pair (value_as first) (value_as second)) }
+        ensures { IfOk result (λ value. celled_of value ≡ Pair (celled_of first) (celled_of second)) }
     {
         let first = Shared::new(alloc, first)?;
         let second = Shared::new(alloc, second)?;
         Ok(Value::Pair(first, second))
     }
 
-    pub fn left(alloc: Global, value: Value) -> Result<Value, Memory>
-        ensures { IfOk result (λ made. value_as made ≡ Left (value_as value)) }
+    pub fn arm(alloc: Global, number: u8, value: Value) -> Result<Value, Memory>
+        ensures { IfOk result (λ made. celled_of made ≡ Arm number (celled_of value)) }
     {
         let value = Shared::new(alloc, value)?;
-        Ok(Value::Left(value))
-    }
-
-    pub fn right(alloc: Global, value: Value) -> Result<Value, Memory>
-        ensures { IfOk result (λ made. value_as made ≡ Right (value_as value)) }
-    {
-        let value = Shared::new(alloc, value)?;
-        Ok(Value::Right(value))
+        Ok(Value::Arm(number, value))
     }
 
     /// A copy, which shares the parts. The copy of an end costs the length of its channel's name.
@@ -130,13 +124,9 @@ impl Value {
                 let second = second.copy()?;
                 Ok(Value::Pair(first, second))
             }
-            Value::Left(value) => {
+            Value::Arm(number, value) => {
                 let value = value.copy()?;
-                Ok(Value::Left(value))
-            }
-            Value::Right(value) => {
-                let value = value.copy()?;
-                Ok(Value::Right(value))
+                Ok(Value::Arm(*number, value))
             }
             Value::End(channel) => {
                 let name = channel.name.copy(alloc)?;
@@ -154,8 +144,7 @@ impl Value {
             Value::Int(_) => 0,
             Value::Unit => 0,
             Value::Pair(first, second) => deeper(first.depth().max(second.depth())),
-            Value::Left(value) => deeper(value.depth()),
-            Value::Right(value) => deeper(value.depth()),
+            Value::Arm(_, value) => deeper(value.depth()),
             Value::End(_) => 0,
         }
     }

@@ -1,4 +1,2 @@
-pub mod Places
-pub mod Opens
-pub mod Turns
 pub mod NamePairs
+pub mod Sums

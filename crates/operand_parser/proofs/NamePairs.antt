@@ -1,6 +1,6 @@
 -- Names and their places, as one list and as two.
 use Rattle.std.proofs.Common.{◌≡◌, ℕ, suc, ◌+◌, ◌-◌, ◌<◌, ◌≤◌, true, false, List, [], ◌∷◌, ◌++◌, length, refl, ap, sym, ◌∙◌, arith, length-append}
-use Rattle.chan_syntax.specs.declared.identifiers.Span.{Span}
+use Rattle.chan_base.specs.declared.spans.Span.{Span}
 use Rattle.surface_grammar.specs.declared.parts.Named.{Named}
 use Rattle.surface_grammar.specs.declared.parts.Names.{Names}
 use Rattle.text_tokens.specs.Text.{Token}
@@ -9,8 +9,8 @@ use Rattle.surface_grammar.specs.declared.words.Word.TheVariants as w
 use Rattle.surface_grammar.specs.Words.{code}
 use Rattle.surface_grammar.specs.Grammar.{word, ◌▷◌, yes, name, names, parted}
 use Rattle.surface_grammar.specs.Language.{At}
-use Rattle.operand_parser.specs.Syntax.{turns, name_at, skip}
-use Rattle.operand_parser.proofs.Turns.{turn_on, turns_stop, turns_end, comma_item, list_on}
+use Rattle.token_cursor.specs.Syntax.{turns, name_at, skip}
+use Rattle.token_cursor.proofs.Turns.{turn_on, turns_stop, turns_end, comma_item, list_on}
 
 unfoldable pub paired : List (List ℕ) → List Span → List Named
 paired [] ss = []

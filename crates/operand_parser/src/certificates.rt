@@ -3,14 +3,15 @@
 ghost use Rattle.std.specs.Prelude.{◌≡◌, IfOk};
 ghost use Rattle.surface_grammar.specs.Language.{At};
 ghost use Rattle.surface_grammar.specs.Operands as spec;
-ghost use Rattle.operand_parser.specs.Syntax.{Answers};
+ghost use Rattle.token_cursor.specs.Syntax.{Answers};
 
-use crate::cursor::{Cursor, Stop};
 use crate::terms::terms;
-use chan_syntax::{Certs, Proof, Span, Terms, WrittenCert, WrittenMention, WrittenMentions};
+use chan_base::Span;
+use chan_syntax::{Certs, Proof, Terms, WrittenCert, WrittenMention, WrittenMentions};
 use sqlite_items::Items;
 use std::alloc::{AllocError, Global};
 use surface_grammar::{BehindNumber, CertParts, Digits, Word};
+use token_cursor::{Cursor, Stop};
 
 fn mention_of(negative: bool, factor: Digits, index: Digits, span: Span) -> WrittenMention
     ensures { result ≡ spec.mention_of negative factor index span }
@@ -36,7 +37,7 @@ fn span_to(first: Span, last: Span) -> Span
     }
 }
 
-#[tactic(auto, unfolding(surface_grammar::specs::Operands::ratio, crate::specs::Syntax::skip, crate::specs::Syntax::number_at, surface_grammar::specs::Grammar::number))]
+#[tactic(auto, unfolding(surface_grammar::specs::Operands::ratio, token_cursor::specs::Syntax::skip, token_cursor::specs::Syntax::number_at, surface_grammar::specs::Grammar::number))]
 fn ratio(cursor: &mut Cursor<'_>, depth: usize) -> Result<(Digits, Digits), Stop>
     ensures { Answers (At depth spec.ratio cursor.old) result cursor.new }
 {
@@ -46,7 +47,7 @@ fn ratio(cursor: &mut Cursor<'_>, depth: usize) -> Result<(Digits, Digits), Stop
     Ok((factor, index))
 }
 
-#[tactic(auto, unfolding(surface_grammar::specs::Operands::minus_mention, crate::specs::Syntax::skip))]
+#[tactic(auto, unfolding(surface_grammar::specs::Operands::minus_mention, token_cursor::specs::Syntax::skip))]
 fn minus_mention(cursor: &mut Cursor<'_>, depth: usize) -> Result<WrittenMention, Stop>
     ensures { Answers (At depth spec.minus_mention cursor.old) result cursor.new }
 {
@@ -65,7 +66,7 @@ fn plain_mention(cursor: &mut Cursor<'_>, depth: usize) -> Result<WrittenMention
     Ok(mention_of(false, factor, index, cursor.since(&start)))
 }
 
-#[tactic(auto, unfolding(surface_grammar::specs::Operands::mention, crate::specs::Syntax::sees))]
+#[tactic(auto, unfolding(surface_grammar::specs::Operands::mention, token_cursor::specs::Syntax::sees))]
 fn mention(cursor: &mut Cursor<'_>, depth: usize) -> Result<WrittenMention, Stop>
     ensures { Answers (At depth spec.mention cursor.old) result cursor.new }
 {
@@ -76,7 +77,7 @@ fn mention(cursor: &mut Cursor<'_>, depth: usize) -> Result<WrittenMention, Stop
     }
 }
 
-#[tactic(auto, unfolding(surface_grammar::specs::Operands::mentions, crate::specs::Syntax::sees, crate::specs::Syntax::skip))]
+#[tactic(auto, unfolding(surface_grammar::specs::Operands::mentions, token_cursor::specs::Syntax::sees, token_cursor::specs::Syntax::skip))]
 fn mentions(cursor: &mut Cursor<'_>, depth: usize) -> Result<WrittenMentions, Stop>
     ensures { Answers (At depth spec.mentions cursor.old) result cursor.new }
 {
@@ -92,7 +93,7 @@ fn mentions(cursor: &mut Cursor<'_>, depth: usize) -> Result<WrittenMentions, St
     Ok(found)
 }
 
-#[tactic(auto, using(crate::proofs::Turns::one_more, crate::proofs::Turns::no_more), unfolding(surface_grammar::specs::Operands::more_mentions, crate::specs::Syntax::sees, crate::specs::Syntax::skip))]
+#[tactic(auto, using(token_cursor::proofs::Turns::one_more, token_cursor::proofs::Turns::no_more), unfolding(surface_grammar::specs::Operands::more_mentions, token_cursor::specs::Syntax::sees, token_cursor::specs::Syntax::skip))]
 fn more_mentions(cursor: &mut Cursor<'_>, depth: usize) -> Result<WrittenMentions, Stop>
     ensures { Answers (At depth spec.more_mentions cursor.old) result cursor.new }
 {
@@ -107,7 +108,7 @@ fn more_mentions(cursor: &mut Cursor<'_>, depth: usize) -> Result<WrittenMention
     Ok(found)
 }
 
-#[tactic(auto, unfolding(surface_grammar::specs::Operands::mentions_to_brace, crate::specs::Syntax::sees, crate::specs::Syntax::skip))]
+#[tactic(auto, unfolding(surface_grammar::specs::Operands::mentions_to_brace, token_cursor::specs::Syntax::sees, token_cursor::specs::Syntax::skip))]
 fn mentions_to_brace(cursor: &mut Cursor<'_>, depth: usize) -> Result<WrittenMentions, Stop>
     ensures { Answers (At depth spec.mentions_to_brace cursor.old) result cursor.new }
 {
@@ -120,7 +121,7 @@ fn mentions_to_brace(cursor: &mut Cursor<'_>, depth: usize) -> Result<WrittenMen
     Ok(mentions)
 }
 
-#[tactic(auto, unfolding(surface_grammar::specs::Operands::behind_number, crate::specs::Syntax::sees, crate::specs::Syntax::skip, crate::specs::Syntax::number_at, surface_grammar::specs::Grammar::number))]
+#[tactic(auto, unfolding(surface_grammar::specs::Operands::behind_number, token_cursor::specs::Syntax::sees, token_cursor::specs::Syntax::skip, token_cursor::specs::Syntax::number_at, surface_grammar::specs::Grammar::number))]
 fn behind_number(cursor: &mut Cursor<'_>, depth: usize) -> Result<BehindNumber, Stop>
     ensures { Answers (At depth spec.behind_number cursor.old) result cursor.new }
 {
@@ -157,7 +158,7 @@ fn numbered(alloc: Global, number: Digits, behind: BehindNumber) -> Result<CertP
     }
 }
 
-#[tactic(auto, unfolding(surface_grammar::specs::Operands::minus_mentions, crate::specs::Syntax::sees, crate::specs::Syntax::skip))]
+#[tactic(auto, unfolding(surface_grammar::specs::Operands::minus_mentions, token_cursor::specs::Syntax::sees, token_cursor::specs::Syntax::skip))]
 fn minus_mentions(cursor: &mut Cursor<'_>, depth: usize) -> Result<WrittenMentions, Stop>
     ensures { Answers (At depth spec.minus_mentions cursor.old) result cursor.new }
 {
@@ -173,7 +174,7 @@ fn minus_mentions(cursor: &mut Cursor<'_>, depth: usize) -> Result<WrittenMentio
     Ok(mentions)
 }
 
-#[tactic(auto, unfolding(surface_grammar::specs::Operands::cert_parts, crate::specs::Syntax::sees_number, crate::specs::Syntax::number_at, surface_grammar::specs::Grammar::number))]
+#[tactic(auto, unfolding(surface_grammar::specs::Operands::cert_parts, token_cursor::specs::Syntax::sees_number, token_cursor::specs::Syntax::number_at, surface_grammar::specs::Grammar::number))]
 fn cert_parts(cursor: &mut Cursor<'_>, depth: usize) -> Result<CertParts, Stop>
     ensures { Answers (At depth spec.cert_parts cursor.old) result cursor.new }
 {
@@ -208,7 +209,7 @@ fn cert_with(divisor: Option<Digits>, mentions: WrittenMentions, span: Span) -> 
     }
 }
 
-#[tactic(auto, using(crate::proofs::Opens::opens_brace), unfolding(surface_grammar::specs::Operands::cert))]
+#[tactic(auto, using(token_cursor::proofs::Opens::opens_brace), unfolding(surface_grammar::specs::Operands::cert))]
 fn cert(cursor: &mut Cursor<'_>, depth: usize) -> Result<WrittenCert, Stop>
     ensures { Answers (At depth spec.cert cursor.old) result cursor.new }
 {
@@ -219,7 +220,7 @@ fn cert(cursor: &mut Cursor<'_>, depth: usize) -> Result<WrittenCert, Stop>
     Ok(cert_with(parts.divisor, parts.mentions, span))
 }
 
-#[tactic(auto, unfolding(surface_grammar::specs::Operands::certs, crate::specs::Syntax::sees, crate::specs::Syntax::skip))]
+#[tactic(auto, unfolding(surface_grammar::specs::Operands::certs, token_cursor::specs::Syntax::sees, token_cursor::specs::Syntax::skip))]
 fn certs(cursor: &mut Cursor<'_>, depth: usize) -> Result<Certs, Stop>
     ensures { Answers (At depth spec.certs cursor.old) result cursor.new }
 {
@@ -235,7 +236,7 @@ fn certs(cursor: &mut Cursor<'_>, depth: usize) -> Result<Certs, Stop>
     Ok(found)
 }
 
-#[tactic(auto, using(crate::proofs::Opens::opens_bracket), unfolding(surface_grammar::specs::Operands::bracketed_terms, crate::specs::Syntax::sees, crate::specs::Syntax::skip))]
+#[tactic(auto, using(token_cursor::proofs::Opens::opens_bracket), unfolding(surface_grammar::specs::Operands::bracketed_terms, token_cursor::specs::Syntax::sees, token_cursor::specs::Syntax::skip))]
 fn bracketed_terms(cursor: &mut Cursor<'_>, depth: usize) -> Result<Terms, Stop>
     ensures { Answers (At depth spec.bracketed_terms cursor.old) result cursor.new }
 {
@@ -249,7 +250,7 @@ fn bracketed_terms(cursor: &mut Cursor<'_>, depth: usize) -> Result<Terms, Stop>
     Ok(terms)
 }
 
-#[tactic(auto, using(crate::proofs::Opens::opens_bracket), unfolding(surface_grammar::specs::Operands::bracketed_certs, crate::specs::Syntax::sees, crate::specs::Syntax::skip))]
+#[tactic(auto, using(token_cursor::proofs::Opens::opens_bracket), unfolding(surface_grammar::specs::Operands::bracketed_certs, token_cursor::specs::Syntax::sees, token_cursor::specs::Syntax::skip))]
 fn bracketed_certs(cursor: &mut Cursor<'_>, depth: usize) -> Result<Certs, Stop>
     ensures { Answers (At depth spec.bracketed_certs cursor.old) result cursor.new }
 {
@@ -263,7 +264,7 @@ fn bracketed_certs(cursor: &mut Cursor<'_>, depth: usize) -> Result<Certs, Stop>
     Ok(certs)
 }
 
-#[tactic(auto, unfolding(surface_grammar::specs::Operands::instances, crate::specs::Syntax::sees, crate::specs::Syntax::skip))]
+#[tactic(auto, unfolding(surface_grammar::specs::Operands::instances, token_cursor::specs::Syntax::sees, token_cursor::specs::Syntax::skip))]
 fn instances(cursor: &mut Cursor<'_>, depth: usize) -> Result<Terms, Stop>
     ensures { Answers (At depth spec.instances cursor.old) result cursor.new }
 {
@@ -275,7 +276,7 @@ fn instances(cursor: &mut Cursor<'_>, depth: usize) -> Result<Terms, Stop>
     }
 }
 
-#[tactic(auto, unfolding(surface_grammar::specs::Operands::certificates, crate::specs::Syntax::sees, crate::specs::Syntax::skip))]
+#[tactic(auto, unfolding(surface_grammar::specs::Operands::certificates, token_cursor::specs::Syntax::sees, token_cursor::specs::Syntax::skip))]
 fn certificates(cursor: &mut Cursor<'_>, depth: usize) -> Result<Certs, Stop>
     ensures { Answers (At depth spec.certificates cursor.old) result cursor.new }
 {

@@ -2,14 +2,12 @@
 #![tactic(auto)]
 
 mod certificates;
-mod cursor;
 mod name_lists;
 mod resources;
 mod terms;
 mod values;
 
 pub use certificates::proof;
-pub use cursor::{Cursor, Stop};
 pub use name_lists::names;
 pub use resources::{bound, param, res, shape};
 pub use terms::{more_parts, number_term, part, reference, term, term_and_number, two_terms};

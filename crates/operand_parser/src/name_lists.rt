@@ -1,33 +1,38 @@
 //! Lists of names.
 
-ghost use Rattle.std.specs.Prelude.{◌≡◌};
+ghost use Rattle.std.specs.Prelude.{◌≡◌, [], ◌∷◌, ◌++◌, OnOk};
 ghost use Rattle.surface_grammar.specs.Language.{At};
 ghost use Rattle.surface_grammar.specs.Grammar as spec;
-ghost use Rattle.surface_grammar.specs.Operands as operands;
-ghost use Rattle.operand_parser.specs.Syntax.{Answers};
+ghost use Rattle.token_cursor.specs.Syntax.{Answers};
 
-use crate::cursor::{Cursor, Stop};
-use chan_syntax::{Idents, Spans};
-use sqlite_items::Items;
+use crate::values::no_names;
+use std::alloc::AllocError;
 use surface_grammar::{Named, Names, Word};
+use token_cursor::{Cursor, Stop};
 
-#[tactic(auto, unfolding(surface_grammar::specs::Grammar::names, crate::specs::Syntax::sees, crate::specs::Syntax::skip, crate::specs::Syntax::name_at, surface_grammar::specs::Grammar::name))]
+fn add(found: &mut Names, named: Named) -> Result<(), AllocError>
+    ensures names { OnOk result (found.new.names ≡ found.old.names ++ named.name ∷ []) }
+    ensures spans { OnOk result (found.new.spans ≡ found.old.spans ++ named.span ∷ []) }
+{
+    found.names.push(named.name)?;
+    found.spans.push(named.span)?;
+    Ok(())
+}
+
+#[tactic(auto, unfolding(surface_grammar::specs::Grammar::names, token_cursor::specs::Syntax::sees, token_cursor::specs::Syntax::skip, token_cursor::specs::Syntax::name_at, surface_grammar::specs::Grammar::name))]
 pub fn names(cursor: &mut Cursor<'_>, depth: usize) -> Result<Names, Stop>
     ensures { Answers (At depth spec.names cursor.old) result cursor.new }
 {
     let first = cursor.name()?;
-    let mut names: Idents = Items::new(cursor.alloc());
-    let mut spans: Spans = Items::new(cursor.alloc());
-    names.push(first.name)?;
-    spans.push(first.span)?;
+    let mut found = no_names(cursor);
+    add(&mut found, first)?;
     for _turn in 0..cursor.left() {
         if !cursor.sees(Word::Comma) {
-            return Ok(Names { names, spans });
+            return Ok(found);
         }
         cursor.skip(Word::Comma)?;
         let next = cursor.name()?;
-        names.push(next.name)?;
-        spans.push(next.span)?;
+        add(&mut found, next)?;
     }
-    Ok(Names { names, spans })
+    Ok(found)
 }

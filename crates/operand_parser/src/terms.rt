@@ -7,12 +7,12 @@ ghost use Rattle.surface_grammar.specs.Grammar.{yes};
 ghost use Rattle.surface_grammar.specs.Language.{At};
 ghost use Rattle.text_tokens.specs.Word.{limit};
 ghost use Rattle.surface_grammar.specs.Terms as spec;
-ghost use Rattle.operand_parser.specs.Syntax.{Answers};
+ghost use Rattle.token_cursor.specs.Syntax.{Answers};
 
-use crate::cursor::{Cursor, Stop};
 use chan_syntax::{Part, Ref, Term, TermParts, Terms};
 use sqlite_items::Items;
 use surface_grammar::{Digits, Named, Word};
+use token_cursor::{Cursor, Stop};
 
 pub fn part(factor: u64, name: Option<Named>) -> Part
     requires { factor ≤ limit }
@@ -35,7 +35,7 @@ pub fn part(factor: u64, name: Option<Named>) -> Part
     }
 }
 
-#[tactic(auto, unfolding(surface_grammar::specs::Terms::times, crate::specs::Syntax::sees, crate::specs::Syntax::skip, crate::specs::Syntax::name_at, surface_grammar::specs::Grammar::name))]
+#[tactic(auto, unfolding(surface_grammar::specs::Terms::times, token_cursor::specs::Syntax::sees, token_cursor::specs::Syntax::skip, token_cursor::specs::Syntax::name_at, surface_grammar::specs::Grammar::name))]
 fn times(cursor: &mut Cursor<'_>, depth: usize) -> Result<Option<Named>, Stop>
     ensures { Answers (At depth spec.times cursor.old) result cursor.new }
 {
@@ -47,7 +47,7 @@ fn times(cursor: &mut Cursor<'_>, depth: usize) -> Result<Option<Named>, Stop>
     }
 }
 
-#[tactic(auto, unfolding(surface_grammar::specs::Terms::number_prod, crate::specs::Syntax::number_at, surface_grammar::specs::Grammar::number))]
+#[tactic(auto, unfolding(surface_grammar::specs::Terms::number_prod, token_cursor::specs::Syntax::number_at, surface_grammar::specs::Grammar::number))]
 fn number_prod(cursor: &mut Cursor<'_>, depth: usize) -> Result<Part, Stop>
     ensures { Answers (At depth spec.number_prod cursor.old) result cursor.new }
 {
@@ -55,7 +55,7 @@ fn number_prod(cursor: &mut Cursor<'_>, depth: usize) -> Result<Part, Stop>
     Ok(part(digits.value, times(cursor, depth)?))
 }
 
-#[tactic(auto, unfolding(surface_grammar::specs::Terms::prod, crate::specs::Syntax::name_at, surface_grammar::specs::Grammar::name, crate::specs::Syntax::sees_number))]
+#[tactic(auto, unfolding(surface_grammar::specs::Terms::prod, token_cursor::specs::Syntax::name_at, surface_grammar::specs::Grammar::name, token_cursor::specs::Syntax::sees_number))]
 fn prod(cursor: &mut Cursor<'_>, depth: usize) -> Result<Part, Stop>
     ensures { Answers (At depth spec.prod cursor.old) result cursor.new }
 {
@@ -66,7 +66,7 @@ fn prod(cursor: &mut Cursor<'_>, depth: usize) -> Result<Part, Stop>
     }
 }
 
-#[tactic(auto, unfolding(surface_grammar::specs::Terms::minus_prod, crate::specs::Syntax::skip))]
+#[tactic(auto, unfolding(surface_grammar::specs::Terms::minus_prod, token_cursor::specs::Syntax::skip))]
 fn minus_prod(cursor: &mut Cursor<'_>, depth: usize) -> Result<Part, Stop>
     ensures { Answers (At depth spec.minus_prod cursor.old) result cursor.new }
 {
@@ -78,7 +78,7 @@ fn minus_prod(cursor: &mut Cursor<'_>, depth: usize) -> Result<Part, Stop>
     })
 }
 
-#[tactic(auto, unfolding(surface_grammar::specs::Terms::first_part, crate::specs::Syntax::sees))]
+#[tactic(auto, unfolding(surface_grammar::specs::Terms::first_part, token_cursor::specs::Syntax::sees))]
 fn first_part(cursor: &mut Cursor<'_>, depth: usize) -> Result<Part, Stop>
     ensures { Answers (At depth spec.first_part cursor.old) result cursor.new }
 {
@@ -89,7 +89,7 @@ fn first_part(cursor: &mut Cursor<'_>, depth: usize) -> Result<Part, Stop>
     }
 }
 
-#[tactic(auto, unfolding(surface_grammar::specs::Terms::next_part, crate::specs::Syntax::sees, crate::specs::Syntax::skip))]
+#[tactic(auto, unfolding(surface_grammar::specs::Terms::next_part, token_cursor::specs::Syntax::sees, token_cursor::specs::Syntax::skip))]
 fn next_part(cursor: &mut Cursor<'_>, depth: usize) -> Result<Part, Stop>
     ensures { Answers (At depth spec.next_part cursor.old) result cursor.new }
 {
@@ -107,7 +107,7 @@ fn sees_sign(cursor: &Cursor<'_>) -> bool
     cursor.sees_any(&[Word::Plus, Word::Minus])
 }
 
-#[tactic(auto, using(crate::proofs::Turns::one_more, crate::proofs::Turns::no_more), unfolding(surface_grammar::specs::Terms::more_parts))]
+#[tactic(auto, using(token_cursor::proofs::Turns::one_more, token_cursor::proofs::Turns::no_more), unfolding(surface_grammar::specs::Terms::more_parts))]
 pub fn more_parts(cursor: &mut Cursor<'_>, depth: usize) -> Result<TermParts, Stop>
     ensures { Answers (At depth spec.more_parts cursor.old) result cursor.new }
 {
@@ -136,7 +136,7 @@ pub fn term(cursor: &mut Cursor<'_>, depth: usize) -> Result<Term, Stop>
     })
 }
 
-#[tactic(auto, unfolding(surface_grammar::specs::Terms::number_part, crate::specs::Syntax::sees))]
+#[tactic(auto, unfolding(surface_grammar::specs::Terms::number_part, token_cursor::specs::Syntax::sees))]
 fn number_part(cursor: &mut Cursor<'_>, depth: usize) -> Result<Part, Stop>
     ensures { Answers (At depth spec.number_part cursor.old) result cursor.new }
 {
@@ -163,7 +163,7 @@ pub fn number_term(cursor: &mut Cursor<'_>, depth: usize) -> Result<Term, Stop>
     })
 }
 
-#[tactic(auto, unfolding(surface_grammar::specs::Terms::terms, crate::specs::Syntax::sees, crate::specs::Syntax::skip))]
+#[tactic(auto, unfolding(surface_grammar::specs::Terms::terms, token_cursor::specs::Syntax::sees, token_cursor::specs::Syntax::skip))]
 pub fn terms(cursor: &mut Cursor<'_>, depth: usize) -> Result<Terms, Stop>
     ensures { Answers (At depth spec.terms cursor.old) result cursor.new }
 {
@@ -179,7 +179,7 @@ pub fn terms(cursor: &mut Cursor<'_>, depth: usize) -> Result<Terms, Stop>
     Ok(found)
 }
 
-#[tactic(auto, using(crate::proofs::Opens::opens_paren), unfolding(surface_grammar::specs::Terms::one_term, crate::specs::Syntax::skip))]
+#[tactic(auto, using(token_cursor::proofs::Opens::opens_paren), unfolding(surface_grammar::specs::Terms::one_term, token_cursor::specs::Syntax::skip))]
 pub fn one_term(cursor: &mut Cursor<'_>, depth: usize) -> Result<Term, Stop>
     ensures { Answers (At depth spec.one_term cursor.old) result cursor.new }
 {
@@ -189,7 +189,7 @@ pub fn one_term(cursor: &mut Cursor<'_>, depth: usize) -> Result<Term, Stop>
     Ok(term)
 }
 
-#[tactic(auto, using(crate::proofs::Opens::opens_paren), unfolding(surface_grammar::specs::Terms::two_terms, crate::specs::Syntax::skip))]
+#[tactic(auto, using(token_cursor::proofs::Opens::opens_paren), unfolding(surface_grammar::specs::Terms::two_terms, token_cursor::specs::Syntax::skip))]
 pub fn two_terms(cursor: &mut Cursor<'_>, depth: usize) -> Result<(Term, Term), Stop>
     ensures { Answers (At depth spec.two_terms cursor.old) result cursor.new }
 {
@@ -201,7 +201,7 @@ pub fn two_terms(cursor: &mut Cursor<'_>, depth: usize) -> Result<(Term, Term), 
     Ok((left, right))
 }
 
-#[tactic(auto, using(crate::proofs::Opens::opens_paren), unfolding(surface_grammar::specs::Terms::term_and_number, crate::specs::Syntax::skip, crate::specs::Syntax::number_at, surface_grammar::specs::Grammar::number))]
+#[tactic(auto, using(token_cursor::proofs::Opens::opens_paren), unfolding(surface_grammar::specs::Terms::term_and_number, token_cursor::specs::Syntax::skip, token_cursor::specs::Syntax::number_at, surface_grammar::specs::Grammar::number))]
 pub fn term_and_number(cursor: &mut Cursor<'_>, depth: usize) -> Result<(Term, Digits), Stop>
     ensures { Answers (At depth spec.term_and_number cursor.old) result cursor.new }
 {
@@ -213,7 +213,7 @@ pub fn term_and_number(cursor: &mut Cursor<'_>, depth: usize) -> Result<(Term, D
     Ok((term, divisor))
 }
 
-#[tactic(auto, using(crate::proofs::Opens::opens_paren), unfolding(surface_grammar::specs::Terms::args, crate::specs::Syntax::sees, crate::specs::Syntax::skip))]
+#[tactic(auto, using(token_cursor::proofs::Opens::opens_paren), unfolding(surface_grammar::specs::Terms::args, token_cursor::specs::Syntax::sees, token_cursor::specs::Syntax::skip))]
 fn args(cursor: &mut Cursor<'_>, depth: usize) -> Result<Terms, Stop>
     ensures { Answers (At depth spec.args cursor.old) result cursor.new }
 {
@@ -227,7 +227,7 @@ fn args(cursor: &mut Cursor<'_>, depth: usize) -> Result<Terms, Stop>
     Ok(terms)
 }
 
-#[tactic(auto, unfolding(surface_grammar::specs::Terms::dual, crate::specs::Syntax::sees, crate::specs::Syntax::skip))]
+#[tactic(auto, unfolding(surface_grammar::specs::Terms::dual, token_cursor::specs::Syntax::sees, token_cursor::specs::Syntax::skip))]
 fn dual(cursor: &mut Cursor<'_>, depth: usize) -> Result<bool, Stop>
     ensures { Answers (At depth spec.dual cursor.old) result cursor.new }
 {
@@ -240,7 +240,7 @@ fn dual(cursor: &mut Cursor<'_>, depth: usize) -> Result<bool, Stop>
 }
 
 /// A reference.
-#[tactic(auto, unfolding(surface_grammar::specs::Terms::reference, crate::specs::Syntax::name_at, surface_grammar::specs::Grammar::name))]
+#[tactic(auto, unfolding(surface_grammar::specs::Terms::reference, token_cursor::specs::Syntax::name_at, surface_grammar::specs::Grammar::name))]
 pub fn reference(cursor: &mut Cursor<'_>, depth: usize) -> Result<Ref, Stop>
     ensures { Answers (At depth spec.reference cursor.old) result cursor.new }
 {

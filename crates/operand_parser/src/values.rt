@@ -1,19 +1,22 @@
 //! Values, patterns and paths.
 
 ghost use Rattle.std.specs.Prelude.{◌≡◌, None, []};
+ghost use Rattle.chan_syntax.specs.declared.operands.Supply.TheVariants as v;
+ghost use Rattle.grammar_laws.specs.Grammar.{call};
+ghost use Rattle.surface_grammar.specs.Grammar.{AValue};
 ghost use Rattle.surface_grammar.specs.Language.{At};
 ghost use Rattle.surface_grammar.specs.Operands as spec;
-ghost use Rattle.operand_parser.specs.Syntax.{Answers};
+ghost use Rattle.token_cursor.specs.Syntax.{Answers};
 
-use crate::cursor::{Cursor, Stop};
 use crate::name_lists::names;
 use crate::terms::term;
 use chan_syntax::{Pat, Supplies, Supply};
 use sqlite_items::{Boxed, Items};
 use surface_grammar::{Names, Route, Word};
+use token_cursor::{Cursor, Stop};
 
 #[cycle(value)]
-#[tactic(auto, using(crate::proofs::Opens::value_is), unfolding(surface_grammar::specs::Operands::pair, crate::specs::Syntax::skip))]
+#[tactic(auto, using(token_cursor::proofs::Opens::value_is), unfolding(surface_grammar::specs::Operands::pair, token_cursor::specs::Syntax::skip))]
 fn pair(cursor: &mut Cursor<'_>, depth: usize) -> Result<Supply, Stop>
     ensures { Answers (At depth spec.pair cursor.old) result cursor.new }
 {
@@ -25,7 +28,7 @@ fn pair(cursor: &mut Cursor<'_>, depth: usize) -> Result<Supply, Stop>
 }
 
 #[cycle(value)]
-#[tactic(auto, unfolding(surface_grammar::specs::Operands::parenthesized, crate::specs::Syntax::sees, crate::specs::Syntax::skip))]
+#[tactic(auto, unfolding(surface_grammar::specs::Operands::parenthesized, token_cursor::specs::Syntax::sees, token_cursor::specs::Syntax::skip))]
 fn parenthesized(cursor: &mut Cursor<'_>, depth: usize) -> Result<Supply, Stop>
     ensures { Answers (At depth spec.parenthesized cursor.old) result cursor.new }
 {
@@ -37,8 +40,28 @@ fn parenthesized(cursor: &mut Cursor<'_>, depth: usize) -> Result<Supply, Stop>
     }
 }
 
+/// The value of the arm with this number.
 #[cycle(value)]
-#[tactic(auto, using(crate::proofs::Opens::opens_paren, crate::proofs::Opens::opens_inl, crate::proofs::Opens::opens_inr, crate::proofs::Opens::value_is), unfolding(surface_grammar::specs::Operands::value, crate::specs::Syntax::sees))]
+#[tactic(auto, using(token_cursor::proofs::Opens::value_is))]
+fn arm(cursor: &mut Cursor<'_>, depth: usize, number: u8) -> Result<Supply, Stop>
+    ensures { Answers (At depth (call AValue (v.Arm number)) cursor.old) result cursor.new }
+{
+    let value = Boxed::new(cursor.alloc(), value(cursor, depth)?)?;
+    Ok(Supply::Arm(number, value))
+}
+
+#[cycle(value)]
+#[tactic(auto, using(token_cursor::proofs::Opens::value_is), unfolding(surface_grammar::specs::Operands::numbered_value, token_cursor::specs::Syntax::arm_number_at, surface_grammar::specs::Grammar::arm_number))]
+fn numbered_value(cursor: &mut Cursor<'_>, depth: usize) -> Result<Supply, Stop>
+    ensures { Answers (At depth spec.numbered_value cursor.old) result cursor.new }
+{
+    let number = cursor.arm_number()?;
+    let value = Boxed::new(cursor.alloc(), value(cursor, depth)?)?;
+    Ok(Supply::Arm(number, value))
+}
+
+#[cycle(value)]
+#[tactic(auto, using(token_cursor::proofs::Opens::opens_paren, token_cursor::proofs::Opens::opens_inl, token_cursor::proofs::Opens::opens_inr, token_cursor::proofs::Opens::opens_hash), unfolding(surface_grammar::specs::Operands::value, token_cursor::specs::Syntax::sees))]
 pub fn value(cursor: &mut Cursor<'_>, depth: usize) -> Result<Supply, Stop>
     ensures { Answers (At depth spec.value cursor.old) result cursor.new }
 {
@@ -47,18 +70,19 @@ pub fn value(cursor: &mut Cursor<'_>, depth: usize) -> Result<Supply, Stop>
         parenthesized(cursor, inner)
     } else if cursor.sees(Word::Inl) {
         let inner = cursor.open(Word::Inl, depth)?;
-        let value = value(cursor, inner)?;
-        Ok(Supply::Left(Boxed::new(cursor.alloc(), value)?))
+        arm(cursor, inner, 0)
     } else if cursor.sees(Word::Inr) {
         let inner = cursor.open(Word::Inr, depth)?;
-        let value = value(cursor, inner)?;
-        Ok(Supply::Right(Boxed::new(cursor.alloc(), value)?))
+        arm(cursor, inner, 1)
+    } else if cursor.sees(Word::Hash) {
+        let inner = cursor.open(Word::Hash, depth)?;
+        numbered_value(cursor, inner)
     } else {
         Ok(Supply::Sum(term(cursor, depth)?))
     }
 }
 
-#[tactic(auto, unfolding(surface_grammar::specs::Operands::values, crate::specs::Syntax::sees, crate::specs::Syntax::skip))]
+#[tactic(auto, unfolding(surface_grammar::specs::Operands::values, token_cursor::specs::Syntax::sees, token_cursor::specs::Syntax::skip))]
 fn values(cursor: &mut Cursor<'_>, depth: usize) -> Result<Supplies, Stop>
     ensures { Answers (At depth spec.values cursor.old) result cursor.new }
 {
@@ -74,7 +98,7 @@ fn values(cursor: &mut Cursor<'_>, depth: usize) -> Result<Supplies, Stop>
     Ok(found)
 }
 
-#[tactic(auto, using(crate::proofs::Opens::opens_paren), unfolding(surface_grammar::specs::Operands::given_values, crate::specs::Syntax::sees, crate::specs::Syntax::skip))]
+#[tactic(auto, using(token_cursor::proofs::Opens::opens_paren), unfolding(surface_grammar::specs::Operands::given_values, token_cursor::specs::Syntax::sees, token_cursor::specs::Syntax::skip))]
 pub fn given_values(cursor: &mut Cursor<'_>, depth: usize) -> Result<Supplies, Stop>
     ensures { Answers (At depth spec.given_values cursor.old) result cursor.new }
 {
@@ -88,7 +112,7 @@ pub fn given_values(cursor: &mut Cursor<'_>, depth: usize) -> Result<Supplies, S
     Ok(values)
 }
 
-#[tactic(auto, using(crate::proofs::Opens::opens_bracket), unfolding(surface_grammar::specs::Operands::bracketed, crate::specs::Syntax::skip))]
+#[tactic(auto, using(token_cursor::proofs::Opens::opens_bracket), unfolding(surface_grammar::specs::Operands::bracketed, token_cursor::specs::Syntax::skip))]
 pub fn bracketed(cursor: &mut Cursor<'_>, depth: usize) -> Result<Names, Stop>
     ensures { Answers (At depth spec.bracketed cursor.old) result cursor.new }
 {
@@ -107,7 +131,7 @@ pub fn no_names(cursor: &Cursor<'_>) -> Names
     }
 }
 
-#[tactic(auto, unfolding(surface_grammar::specs::Operands::names_if_any, crate::specs::Syntax::sees))]
+#[tactic(auto, unfolding(surface_grammar::specs::Operands::names_if_any, token_cursor::specs::Syntax::sees))]
 fn names_if_any(cursor: &mut Cursor<'_>, depth: usize) -> Result<Names, Stop>
     ensures { Answers (At depth spec.names_if_any cursor.old) result cursor.new }
 {
@@ -119,7 +143,7 @@ fn names_if_any(cursor: &mut Cursor<'_>, depth: usize) -> Result<Names, Stop>
 }
 
 /// A pattern.
-#[tactic(auto, unfolding(surface_grammar::specs::Operands::pat, crate::specs::Syntax::name_at, surface_grammar::specs::Grammar::name))]
+#[tactic(auto, unfolding(surface_grammar::specs::Operands::pat, token_cursor::specs::Syntax::name_at, surface_grammar::specs::Grammar::name))]
 pub fn pat(cursor: &mut Cursor<'_>, depth: usize) -> Result<Pat, Stop>
     ensures { Answers (At depth spec.pat cursor.old) result cursor.new }
 {
@@ -134,7 +158,7 @@ pub fn pat(cursor: &mut Cursor<'_>, depth: usize) -> Result<Pat, Stop>
 }
 
 /// A path, or none.
-#[tactic(auto, unfolding(surface_grammar::specs::Operands::route, crate::specs::Syntax::sees, crate::specs::Syntax::skip, crate::specs::Syntax::letters_at, surface_grammar::specs::Grammar::letters))]
+#[tactic(auto, unfolding(surface_grammar::specs::Operands::route, token_cursor::specs::Syntax::sees, token_cursor::specs::Syntax::skip, token_cursor::specs::Syntax::letters_at, surface_grammar::specs::Grammar::letters))]
 pub fn route(cursor: &mut Cursor<'_>, depth: usize) -> Result<Route, Stop>
     ensures { Answers (At depth spec.route cursor.old) result cursor.new }
 {

@@ -14,21 +14,21 @@ use std::alloc::AllocError;
 pub type IntVars = Items<IntVar>;
 
 /// A program variable that is an integer, and its term over the integer variables.
-#[derive(Debug, Drop)]
+#[derive(Drop)]
 pub struct IntVar {
     pub name: Ident,
     pub term: Term,
 }
 
 /// The integer variables of a context in order, and its program variables that are integers.
-#[derive(Debug, Drop)]
+#[derive(Drop)]
 pub struct IntNames {
     pub ints: Idents,
     pub vars: IntVars,
 }
 
 /// Why a term has no row.
-#[derive(Debug, Drop)]
+#[derive(Drop)]
 pub enum TermFault {
     TooLarge,
     /// The first name of the term that is no integer.

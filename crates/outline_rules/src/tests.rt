@@ -1,6 +1,6 @@
 use crate::{IntNames, IntVar, TermFault, normal};
-use chan_base::Memory;
-use chan_syntax::{Ident, Part, Span, Term};
+use chan_base::{Memory, Span};
+use chan_syntax::{Ident, Part, Term};
 use farkas_check::Row;
 use sqlite_items::Items;
 use std::alloc::Global;

@@ -11,7 +11,7 @@ use std::alloc::Global;
 use std::collections::BTreeMap;
 
 /// Where the two turns of a protocol lead: that after `then`, and that after `else`.
-#[derive(Clone, Copy, Debug)]
+#[derive(Clone, Copy)]
 pub struct Turns {
     pub left: Option<usize>,
     pub right: Option<usize>,

@@ -8,3 +8,4 @@ pub mod Asked
 pub mod Stepping
 pub mod TheHead
 pub mod Divisors
+pub mod Placing

@@ -162,7 +162,7 @@ pub stop_fault : (s : Setting) (from : Ref) (letters : List Letter) (path : List
 stop_fault s from letters path i d used ref f h leads failed =
     fault_to (λ fault. Steps s used ref (letter_of (get_or path i d)) (Stop fault)) (λ fault. Follows s 0 from letters (Stop fault)) f (λ fault step. leads_to_stop s from letters path i d used ref fault h leads step) failed
 
-none_left : (path : List written.Letter) (i : ℕ) → i ≤ length path → length path ≤ i → drop i path ≡ []
+pub none_left : (path : List written.Letter) (i : ℕ) → i ≤ length path → length path ≤ i → drop i path ≡ []
 none_left path i h k = let e : i ≡ length path = omega arith in rw (e, drop-length path) refl
 
 pub leads_to_end : (s : Setting) (from : Ref) (letters : List Letter) (path : List written.Letter) (i : ℕ) (used : ℕ) (ref : Ref) → i ≤ length path → length path ≤ i → Leads s from letters used ref (map letter_of (drop i path)) → Follows s 0 from letters (On ref used)

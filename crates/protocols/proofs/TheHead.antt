@@ -4,11 +4,11 @@ use Rattle.std.specs.List.{list_any}
 use Rattle.std.proofs.lemmas.List.Elements.{All-head, All-tail}
 use Rattle.core_language.specs.Names.{Ident, same}
 use Rattle.core_language.specs.Terms.{Term, Limit}
-use Rattle.core_language.specs.Resources.{Ref, Shape, Res, Equation, Proto}
+use Rattle.core_language.specs.Resources.{Ref, Shape, Res, Resources, Equation, Proto}
 use Rattle.core_language.specs.Resources as resource
 use Rattle.core_language.specs.Operands.{Letter}
 use Rattle.linear_forms.specs.Terms.{IntVar, sum_of, named, by_place}
-use Rattle.linear_forms.specs.Substitution.{place_of, at_place, Scoped, scoped, terms_of_limit, terms_of_shape, terms_of_res, Each, OnNames, OnTerms, AnyNames, IsLimitLike, IsShapeLike, IsResLike, IsRenamed, IsNormalPut}
+use Rattle.linear_forms.specs.Substitution.{place_of, at_place, Scoped, scoped, terms_of_limit, terms_of_shape, terms_of_res, terms_of_resources, Each, OnNames, OnTerms, AnyNames, IsLimitLike, IsShapeLike, IsResLike, AreResourcesLike, IsRenamed, IsNormalPut}
 use Rattle.linear_forms.proofs.Shorts.{all_left, all_right}
 use Rattle.protocols.specs.Duals.{Message, message_of, turned}
 use Rattle.protocols.specs.Heads.{Head, argument, equation_of_end}
@@ -54,34 +54,40 @@ module _ (N : OnNames) (T Q : OnTerms) (params : List Ident) (same_value : (befo
     shape_to before after (resource.End r) (resource.End q) only h = record { dual = h.dual; name = h.name; args = terms_to before after r.args q.args only h.args }
     shape_to before after (resource.Pair a b) (resource.Pair c d) only h =
         (res_to before after a c (all_left (NamesUnder params) (terms_of_res before a) (terms_of_res before b) only) h.0, res_to before after b d (all_right (NamesUnder params) (terms_of_res before a) (terms_of_res before b) only) h.1)
-    shape_to before after (resource.Sum a b) (resource.Sum c d) only h =
-        (res_to before after a c (all_left (NamesUnder params) (terms_of_res before a) (terms_of_res before b) only) h.0, res_to before after b d (all_right (NamesUnder params) (terms_of_res before a) (terms_of_res before b) only) h.1)
+    shape_to before after (resource.Sum rs) (resource.Sum qs) only h = resources_to before after rs qs only h
     shape_to before after resource.Unit (resource.Int u) only h = absurd h
     shape_to before after resource.Unit (resource.End q) only h = absurd h
     shape_to before after resource.Unit (resource.Pair c d) only h = absurd h
-    shape_to before after resource.Unit (resource.Sum c d) only h = absurd h
+    shape_to before after resource.Unit (resource.Sum qs) only h = absurd h
     shape_to before after (resource.Int t) resource.Unit only h = absurd h
     shape_to before after (resource.Int t) (resource.End q) only h = absurd h
     shape_to before after (resource.Int t) (resource.Pair c d) only h = absurd h
-    shape_to before after (resource.Int t) (resource.Sum c d) only h = absurd h
+    shape_to before after (resource.Int t) (resource.Sum qs) only h = absurd h
     shape_to before after (resource.End r) resource.Unit only h = absurd h
     shape_to before after (resource.End r) (resource.Int u) only h = absurd h
     shape_to before after (resource.End r) (resource.Pair c d) only h = absurd h
-    shape_to before after (resource.End r) (resource.Sum c d) only h = absurd h
+    shape_to before after (resource.End r) (resource.Sum qs) only h = absurd h
     shape_to before after (resource.Pair a b) resource.Unit only h = absurd h
     shape_to before after (resource.Pair a b) (resource.Int u) only h = absurd h
     shape_to before after (resource.Pair a b) (resource.End q) only h = absurd h
-    shape_to before after (resource.Pair a b) (resource.Sum c d) only h = absurd h
-    shape_to before after (resource.Sum a b) resource.Unit only h = absurd h
-    shape_to before after (resource.Sum a b) (resource.Int u) only h = absurd h
-    shape_to before after (resource.Sum a b) (resource.End q) only h = absurd h
-    shape_to before after (resource.Sum a b) (resource.Pair c d) only h = absurd h
+    shape_to before after (resource.Pair a b) (resource.Sum qs) only h = absurd h
+    shape_to before after (resource.Sum rs) resource.Unit only h = absurd h
+    shape_to before after (resource.Sum rs) (resource.Int u) only h = absurd h
+    shape_to before after (resource.Sum rs) (resource.End q) only h = absurd h
+    shape_to before after (resource.Sum rs) (resource.Pair c d) only h = absurd h
 
     res_to : (before after : List Ident) (r q : Res) → All (NamesUnder params) (terms_of_res before r) → IsResLike N T before after r q → IsResLike AnyNames Q before after r q
     res_to before after (resource.Binds b s) (resource.Binds c t) only h =
         let limits : All (NamesUnder params) (scoped (b.names ++ before) (flat_map terms_of_limit b.limits)) = all_left (NamesUnder params) (scoped (b.names ++ before) (flat_map terms_of_limit b.limits)) (terms_of_shape (b.names ++ before) s) only in
         let shapes : All (NamesUnder params) (terms_of_shape (b.names ++ before) s) = all_right (NamesUnder params) (scoped (b.names ++ before) (flat_map terms_of_limit b.limits)) (terms_of_shape (b.names ++ before) s) only in
-        (each_to (N before (resource.Binds b s)) (AnyNames before (resource.Binds b s)) b.names c.names (λ x y k. tt) h.0, limits_to (b.names ++ before) (c.names ++ after) b.limits c.limits limits h.1, shape_to (b.names ++ before) (c.names ++ after) s t shapes h.2)
+        (each_to (N before (c.names ++ after) (resource.Binds b s)) (AnyNames before (c.names ++ after) (resource.Binds b s)) b.names c.names (λ x y k. tt) h.0, limits_to (b.names ++ before) (c.names ++ after) b.limits c.limits limits h.1, shape_to (b.names ++ before) (c.names ++ after) s t shapes h.2)
+
+    resources_to : (before after : List Ident) (rs qs : Resources) → All (NamesUnder params) (terms_of_resources before rs) → AreResourcesLike N T before after rs qs → AreResourcesLike AnyNames Q before after rs qs
+    resources_to before after resource.NoMore resource.NoMore only h = tt
+    resources_to before after resource.NoMore (resource.More q qs) only h = absurd h
+    resources_to before after (resource.More r rs) resource.NoMore only h = absurd h
+    resources_to before after (resource.More r rs) (resource.More q qs) only h =
+        (res_to before after r q (all_left (NamesUnder params) (terms_of_res before r) (terms_of_resources before rs) only) h.0, resources_to before after rs qs (all_right (NamesUnder params) (terms_of_res before r) (terms_of_resources before rs) only) h.1)
 
 -- ---- terms with arguments put in
 

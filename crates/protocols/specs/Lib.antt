@@ -5,3 +5,4 @@ pub mod FaultsOf
 pub mod Settings
 pub mod HeadsOf
 pub mod Answers
+pub mod Places

@@ -3,13 +3,15 @@ ghost use Rattle.std.specs.Prelude.{◌≡◌, IfOk};
 ghost use Rattle.std.specs.Option.{option_map};
 ghost use Rattle.chan_syntax.specs.Reading.{ref_of, equation_of, proto_of};
 ghost use Rattle.protocols.specs.Duals as spec;
+ghost use Rattle.protocols.specs.Places.{other_end, other_equation, other_proto};
 
 use chan_base::Memory;
 use chan_syntax::{Equation, Proto, Ref, copy_names, copy_spans};
 use std::alloc::Global;
 
 pub fn dual_ref(alloc: Global, from: &Ref) -> Result<Ref, Memory>
-    ensures { IfOk result (λ dual. ref_of dual ≡ spec.dual_ref (ref_of from.now)) }
+    ensures dual { IfOk result (λ dual. ref_of dual ≡ spec.dual_ref (ref_of from.now)) }
+    ensures places { IfOk result (λ dual. dual ≡ other_end from.now) }
 {
     let mut dual = from.copy(alloc)?;
     dual.dual = !dual.dual;
@@ -18,7 +20,8 @@ pub fn dual_ref(alloc: Global, from: &Ref) -> Result<Ref, Memory>
 
 /// The dual of what follows a message, where something does.
 pub(crate) fn dual_next(alloc: Global, next: &Option<Ref>) -> Result<Option<Ref>, Memory>
-    ensures { IfOk result (λ dual. option_map ref_of dual ≡ option_map spec.dual_ref (option_map ref_of next.now)) }
+    ensures dual { IfOk result (λ dual. option_map ref_of dual ≡ option_map spec.dual_ref (option_map ref_of next.now)) }
+    ensures places { IfOk result (λ dual. dual ≡ option_map other_end next.now) }
 {
     match next {
         Some(next) => Ok(Some(dual_ref(alloc, next)?)),
@@ -27,7 +30,8 @@ pub(crate) fn dual_next(alloc: Global, next: &Option<Ref>) -> Result<Option<Ref>
 }
 
 pub(crate) fn dual_equation(alloc: Global, equation: &Equation) -> Result<Equation, Memory>
-    ensures { IfOk result (λ dual. equation_of dual ≡ spec.dual_equation (equation_of equation.now)) }
+    ensures dual { IfOk result (λ dual. equation_of dual ≡ spec.dual_equation (equation_of equation.now)) }
+    ensures places { IfOk result (λ dual. dual ≡ other_equation equation.now) }
 {
     match equation {
         Equation::Send(res, next) => Ok(Equation::Recv(res.copy(alloc)?, dual_next(alloc, next)?)),
@@ -45,7 +49,8 @@ pub(crate) fn dual_equation(alloc: Global, equation: &Equation) -> Result<Equati
 
 /// The protocol of the other end, under the same name.
 pub fn dual(alloc: Global, proto: &Proto) -> Result<Proto, Memory>
-    ensures { IfOk result (λ dual. proto_of dual ≡ spec.dual_proto (proto_of proto.now)) }
+    ensures dual { IfOk result (λ dual. proto_of dual ≡ spec.dual_proto (proto_of proto.now)) }
+    ensures places { IfOk result (λ dual. dual ≡ other_proto proto.now) }
 {
     Ok(Proto {
         name: proto.name.copy(alloc)?,

@@ -14,6 +14,3 @@ pub use faults::UnfoldFault;
 pub use laws::{an_end_has_one_head, the_dual_is_the_other_end, unfolding_finds_the_head};
 pub use messages::Head;
 pub use unfolding::{Unfolded, unfold};
-
-#[cfg(test)]
-mod tests;

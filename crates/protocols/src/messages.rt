@@ -1,6 +1,7 @@
 //! The message of an end.
-ghost use Rattle.std.specs.Prelude.{◌≡◌, [], true, length, map, IfOk, IfErr};
+ghost use Rattle.std.specs.Prelude.{◌≡◌, ◌++◌, ◌∷◌, [], List, true, length, map, IfOk, IfErr};
 ghost use Rattle.std.specs.Option.{option_map};
+ghost use Rattle.core_language.specs.Names.{Ident as Name};
 ghost use Rattle.core_language.specs.Resources.{Pair, Binds, End};
 ghost use Rattle.linear_forms.specs.Substitution.{AllFit, IsSubst, terms_of_res};
 ghost use Rattle.chan_syntax.specs.Reading.{term_of, ref_of, bound_of, shape_of, res_of, equation_of, proto_of};
@@ -9,11 +10,13 @@ ghost use Rattle.protocols.specs.Duals as duals;
 ghost use Rattle.protocols.specs.Heads as heads;
 ghost use Rattle.protocols.specs.Unfolding.{arguments, stops, HasArity, HasFormed, IsMessageTooLarge};
 ghost use Rattle.protocols.specs.HeadsOf.{message_in, direction_of, resource_of};
+ghost use Rattle.protocols.specs.Places.{bare_bound, pieces_with_end, pieces_of_message, pieces_of_head, IsHeadPlaced};
+ghost use Rattle.substitution.specs.Places.{Binders, ArePlaced, pieces_of_ref, pieces_of_shape, pieces_of_res};
 
 use crate::duals::{dual_equation, dual_next};
 use crate::paths::proto_named;
-use chan_base::Memory;
-use chan_syntax::{Bound, Equation, Idents, Limits, Proto, Ref, Res, Shape, Spans, Terms};
+use chan_base::{Memory, Spans};
+use chan_syntax::{Bound, Equation, Idents, Limits, Proto, Ref, Res, Shape, Terms};
 use sqlite_items::Boxed;
 use std::alloc::Global;
 use substitution::{SubstFault, subst};
@@ -26,7 +29,8 @@ pub enum Head {
 }
 
 fn no_bound(alloc: Global) -> Bound
-    ensures { bound_of result ≡ duals.no_bound }
+    ensures read { bound_of result ≡ duals.no_bound }
+    ensures places { result ≡ bare_bound }
 {
     Bound {
         names: Idents::new(alloc),
@@ -36,7 +40,8 @@ fn no_bound(alloc: Global) -> Bound
 }
 
 fn bare(alloc: Global, shape: Shape) -> Res
-    ensures { res_of result ≡ Binds duals.no_bound (shape_of shape) }
+    ensures read { res_of result ≡ Binds duals.no_bound (shape_of shape) }
+    ensures places { (binders : List Name) → pieces_of_res binders result ≡ Binders [] ∷ pieces_of_shape binders shape }
 {
     Res {
         bound: no_bound(alloc),
@@ -47,7 +52,8 @@ fn bare(alloc: Global, shape: Shape) -> Res
 /// A pair of a shape and the end at which the receiver goes on.
 #[tactic(auto, using(crate::proofs::Forming::pair_of))]
 fn paired(alloc: Global, shape: Shape, next: Ref) -> Result<Shape, Memory>
-    ensures { IfOk result (λ pair. shape_of pair ≡ Pair (Binds duals.no_bound (shape_of shape)) (Binds duals.no_bound (End (ref_of next)))) }
+    ensures read { IfOk result (λ pair. shape_of pair ≡ Pair (Binds duals.no_bound (shape_of shape)) (Binds duals.no_bound (End (ref_of next)))) }
+    ensures places { IfOk result (λ pair. (binders : List Name) → pieces_of_shape binders pair ≡ (Binders [] ∷ pieces_of_shape binders shape) ++ (Binders [] ∷ pieces_of_ref binders next)) }
 {
     let first = Boxed::new(alloc, bare(alloc, shape))?;
     let second = Boxed::new(alloc, bare(alloc, Shape::End(next)))?;
@@ -56,7 +62,8 @@ fn paired(alloc: Global, shape: Shape, next: Ref) -> Result<Shape, Memory>
 
 /// A resource, with the end at which the receiver goes on where there is one.
 fn with_end(alloc: Global, res: Res, next: Option<Ref>) -> Result<Res, Memory>
-    ensures { IfOk result (λ all. res_of all ≡ duals.with_end (res_of res) (option_map ref_of next)) }
+    ensures read { IfOk result (λ all. res_of all ≡ duals.with_end (res_of res) (option_map ref_of next)) }
+    ensures places { IfOk result (λ all. pieces_of_res [] all ≡ pieces_with_end res next) }
 {
     match next {
         None => Ok(res),
@@ -68,19 +75,24 @@ fn with_end(alloc: Global, res: Res, next: Option<Ref>) -> Result<Res, Memory>
 }
 
 /// The equation of a protocol, or that of its dual.
+#[tactic(auto, using(crate::proofs::Placing::message_of_other))]
 fn equation_of_end(alloc: Global, dual: bool, proto: &Proto) -> Result<Equation, Memory>
-    ensures { IfOk result (λ equation. equation_of equation ≡ heads.equation_of_end dual (proto_of proto.now)) }
+    ensures read { IfOk result (λ equation. equation_of equation ≡ heads.equation_of_end dual (proto_of proto.now)) }
+    ensures places { IfOk result (λ equation. pieces_of_message equation ≡ pieces_of_message proto.now.equation) }
 {
     if dual {
-        dual_equation(alloc, &proto.equation)
-    } else {
-        proto.equation.copy(alloc)
+        let other = dual_equation(alloc, &proto.equation)?;
+        return Ok(other);
     }
+    let same = proto.equation.copy(alloc)?;
+    Ok(same)
 }
 
 /// The message of an equation that isn't `if`.
+#[tactic(auto, using(crate::proofs::Placing::with_other_end))]
 fn message_of(alloc: Global, equation: Equation) -> Result<Option<Head>, Memory>
-    ensures { IfOk result (λ head. option_map message_in head ≡ duals.message_of (equation_of equation)) }
+    ensures read { IfOk result (λ head. option_map message_in head ≡ duals.message_of (equation_of equation)) }
+    ensures places { IfOk result (λ head. option_map pieces_of_head head ≡ pieces_of_message equation) }
 {
     match equation {
         Equation::Send(res, next) => {
@@ -98,6 +110,7 @@ fn message_of(alloc: Global, equation: Equation) -> Result<Option<Head>, Memory>
 fn formed(alloc: Global, message: Head, params: &Idents, args: &Terms) -> Result<Head, SubstFault>
     requires { length args.now ≡ length params.now }
     ensures direction { IfOk result (λ head. direction_of head ≡ direction_of message) }
+    ensures places { IfOk result (λ head. ArePlaced params.now args.now (pieces_of_head message) (pieces_of_head head)) }
     ensures res { IfOk result (λ head. IsSubst (arguments params.now (map term_of args.now)) (resource_of message) (resource_of head)) }
     ensures err { IfErr result (λ fault. fault ≡ cause.TooLarge → AllFit (arguments params.now (map term_of args.now)) (terms_of_res [] (resource_of message)) → ⊥) }
 {
@@ -118,6 +131,7 @@ pub(crate) fn head_of(alloc: Global, protos: &[Proto], end: &Ref) -> Result<Head
     requires stops { stops (heads.proto_named end.now.name (map proto_of protos.now)) ≡ true }
     requires arity { HasArity (map proto_of protos.now) (ref_of end.now) }
     ensures ok { IfOk result (λ head. HasFormed (map proto_of protos.now) (ref_of end.now) (direction_of head) (resource_of head)) }
+    ensures places { IfOk result (IsHeadPlaced protos.now end.now) }
     ensures err { IfErr result (λ fault. fault ≡ cause.TooLarge → IsMessageTooLarge (map proto_of protos.now) (ref_of end.now)) }
 {
     let Some(proto) = proto_named(protos, &end.name) else {

@@ -4,6 +4,7 @@ ghost use Rattle.std.specs.Option.{option_map, option_copied};
 ghost use Rattle.core_language.specs.Names.{same};
 ghost use Rattle.chan_syntax.specs.Reading.{ref_of, equation_of, proto_of, letter_of};
 ghost use Rattle.protocols.specs.Heads as heads;
+ghost use Rattle.protocols.specs.Places.{first_named, way_of};
 ghost use Rattle.protocols.specs.Unfolding as spec;
 
 use chan_syntax::{Equation, Ident, Letter, Proto, Ref};
@@ -16,13 +17,15 @@ fn first_named<'a>(protos: &'a [Proto], name: &Ident) -> Option<&'a Proto>
 
 /// The first protocol with this name.
 pub(crate) fn proto_named<'a>(protos: &'a [Proto], name: &Ident) -> Option<&'a Proto>
-    ensures { option_map proto_of (option_copied result) ≡ heads.proto_named name.now (map proto_of protos.now) }
+    ensures read { option_map proto_of (option_copied result) ≡ heads.proto_named name.now (map proto_of protos.now) }
+    ensures placed { option_copied result ≡ first_named protos.now name.now }
 {
     first_named(protos, name)
 }
 
 pub(crate) fn on_way<'a>(letter: Letter, this: &'a Ref, other: &'a Ref) -> &'a Ref
-    ensures { ref_of result.now ≡ heads.on_way (letter_of letter) (ref_of this.now) (ref_of other.now) }
+    ensures read { ref_of result.now ≡ heads.on_way (letter_of letter) (ref_of this.now) (ref_of other.now) }
+    ensures placed { result.now ≡ way_of letter this.now other.now }
 {
     match letter {
         Letter::Left => this,

@@ -12,6 +12,8 @@ ghost use Rattle.protocols.specs.Unfolding.{arguments, On, Stop, Steps, Follows,
 ghost use Rattle.protocols.specs.FaultsOf.{IsFault};
 ghost use Rattle.protocols.specs.Settings.{under, setting_of, IsReady};
 ghost use Rattle.protocols.specs.Answers.{found_of};
+ghost use Rattle.protocols.specs.Places.{LeadsTo, LeadTo, IsPlacedHead};
+ghost use Rattle.substitution.specs.Places.{ArePlaced, pieces_of_ref};
 
 use crate::asking::{Setting, formed_row, oblige};
 use crate::faults::UnfoldFault;
@@ -40,6 +42,7 @@ struct Followed {
 /// The reference that a letter picked of an end's equation, with the arguments of the end put in.
 fn next_end(alloc: Global, proto: &Proto, end: &Ref, picked: &Ref) -> Result<Ref, SubstFault>
     requires { length end.now.args ≡ length proto.now.params }
+    ensures places { IfOk result (λ next. ArePlaced proto.now.params end.now.args (pieces_of_ref [] picked.now) (pieces_of_ref [] next)) }
     ensures ok { IfOk result (λ next. IsRefLike (IsNormalPut (arguments proto.now.params (map term_of end.now.args))) [] [] (turned_if end.now.dual (ref_of picked.now)) (ref_of next)) }
     ensures err { IfErr result (λ fault. fault ≡ cause.TooLarge → All (Fits (arguments proto.now.params (map term_of end.now.args)) []) (map term_of picked.now.args) → ⊥) }
 {
@@ -63,6 +66,7 @@ fn step(
     requires ready { IsReady setting.now }
     requires arity { HasArity (setting_of setting.now).protos (ref_of at.now.end) }
     requires goes { is_some (spec.picked_at (letter_of letter) (heads.proto_named at.now.end.name (setting_of setting.now).protos)) ≡ true }
+    ensures places { IfOk result (λ next. LeadsTo setting.now.protos.now letter at.now.end next.end) }
     ensures ok { IfOk result (λ next. Steps (setting_of setting.now) at.now.used (ref_of at.now.end) (letter_of letter) (On (ref_of next.end) next.used)) }
     ensures err { IfErr result (IsFault (λ fault. Steps (setting_of setting.now) at.now.used (ref_of at.now.end) (letter_of letter) (Stop fault))) }
 {
@@ -96,6 +100,7 @@ fn follow(
     requires ready { IsReady setting.now }
     requires arity { HasArity (setting_of setting.now).protos (ref_of from.now) }
     requires form { spec.has_form (setting_of setting.now).protos (map letter_of path.now) from.now.name ≡ true }
+    ensures places { IfOk result (λ last. LeadTo setting.now.protos.now path.now from.now last.end) }
     ensures ok { IfOk result (λ last. Follows (setting_of setting.now) 0 (ref_of from.now) (map letter_of path.now) (On (ref_of last.end) last.used)) }
     ensures arity { IfOk result (λ last. HasArity (setting_of setting.now).protos (ref_of last.end)) }
     ensures stops { IfOk result (λ last. spec.stops (heads.proto_named last.end.name (setting_of setting.now).protos) ≡ true) }
@@ -129,6 +134,7 @@ pub fn unfold(
     requires ints { length names.now.ints ≤ 256 }
     ensures ok { IfOk result (λ unfolded. Unfolds (under protos.now names.now.ints hyps.now certs.now) (ref_of from.now) (map letter_of path.now) (Ok (found_of unfolded))) }
     ensures err { IfErr result (IsFault (λ fault. Unfolds (under protos.now names.now.ints hyps.now certs.now) (ref_of from.now) (map letter_of path.now) (Err fault))) }
+    ensures places { IfOk result (λ unfolded. IsPlacedHead protos.now from.now path.now unfolded.head) }
     ensures head { IfOk result (λ unfolded. IsTheHead (under protos.now names.now.ints hyps.now certs.now) (ref_of from.now) (map letter_of path.now) (found_of unfolded)) }
 {
     if !has_form(protos.as_slice(), path.as_slice(), &from.name) {

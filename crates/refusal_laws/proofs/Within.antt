@@ -2,7 +2,7 @@
 use Rattle.std.proofs.Common.{◌≡◌, ◌⊎◌, inl, inr, ℕ, ◌<◌, List, [], ◌∷◌, ◌++◌, refl, sym, ap, subst}
 use Rattle.std.specs.List.{All}
 use Rattle.std.proofs.lemmas.List.Elements.{All-head, All-tail}
-use Rattle.chan_syntax.specs.declared.identifiers.Span.{Span}
+use Rattle.chan_base.specs.declared.spans.Span.{Span}
 use Rattle.text_tokens.specs.Text.{Token, HasTokens, IsWithin, StandsIn, AreInOrder, span_behind}
 use Rattle.text_tokens.proofs.Each.{each_stands, in_order, span_within}
 use Rattle.chan_parser.specs.Parse.{Fault, unexpected, too_deep, IsFirstFault, place_of}

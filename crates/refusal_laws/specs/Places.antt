@@ -1,6 +1,6 @@
 -- Where a fault of the parser stands in its text.
 use Rattle.std.specs.Prelude.{◌≡◌, ◌⊎◌, ℕ, List, []}
-use Rattle.chan_syntax.specs.declared.identifiers.Span.{Span}
+use Rattle.chan_base.specs.declared.spans.Span.{Span}
 use Rattle.text_tokens.specs.Text.{Token, HasTokens, IsWithin, span_behind}
 use Rattle.chan_parser.specs.Parse.{Fault, unexpected, too_deep, IsFirstFault}
 

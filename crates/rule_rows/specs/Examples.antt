@@ -1,14 +1,17 @@
 -- The protocols of the cases of `unfold`, as the core language has them.
 use Rattle.std.specs.Prelude.{ℤ, pos, negsuc, false, List, [], ◌∷◌, Option, Some, None}
 use Rattle.core_language.specs.Names.{Ident}
-use Rattle.core_language.specs.Terms.{Part, Term}
-use Rattle.core_language.specs.Resources.{Ref, Res, Equation, Proto, Send, Recv, Close, Branch, Binds, Int}
+use Rattle.core_language.specs.Terms.{Part, Term, Limit, Bound, AtMost}
+use Rattle.core_language.specs.Resources.{Ref, Res, Equation, Proto, Send, Recv, Close, Wait, Branch, Binds, Int}
 use Rattle.protocols.specs.Duals.{no_bound}
 
 -- ---- names
 
 abbrev pub n : Ident
 n = 110 ∷ []
+
+abbrev pub k : Ident
+k = 107 ∷ []
 
 abbrev pub Ping : Ident
 Ping = 80 ∷ 105 ∷ 110 ∷ 103 ∷ []
@@ -40,6 +43,12 @@ Quiet = 81 ∷ 117 ∷ 105 ∷ 101 ∷ 116 ∷ []
 abbrev pub Load : Ident
 Load = 76 ∷ 111 ∷ 97 ∷ 100 ∷ []
 
+abbrev pub Rest : Ident
+Rest = 82 ∷ 101 ∷ 115 ∷ 116 ∷ []
+
+abbrev pub Ask : Ident
+Ask = 65 ∷ 115 ∷ 107 ∷ []
+
 -- ---- parts of protocols
 
 abbrev pub part : ℤ → Option Ident → Part
@@ -48,6 +57,28 @@ part factor name = record { negative = false; factor = factor; name = name }
 -- `factor*n + constant`
 abbrev pub sum : ℤ → ℤ → Term
 sum factor constant = part factor (Some n) ∷ part constant None ∷ []
+
+abbrev pub bare : Ident → Term
+bare name = part (pos 1) (Some name) ∷ []
+
+abbrev pub at_most : Term → Term → Limit
+at_most left right = record { left = left; relation = AtMost; right = right }
+
+-- 0 <= k
+abbrev pub low : Limit
+low = at_most (sum (pos 0) (pos 0)) (bare k)
+
+-- k <= n
+abbrev pub high : Limit
+high = at_most (bare k) (sum (pos 1) (pos 0))
+
+-- k: 0 <= k, k <= n
+abbrev pub within : Bound
+within = record { names = k ∷ []; limits = low ∷ high ∷ [] }
+
+-- [k: 0 <= k, k <= n] int(k)
+abbrev pub asked : Res
+asked = Binds within (Int (bare k))
 
 abbrev pub most : ℤ
 most = pos 9223372036854775807
@@ -110,5 +141,13 @@ quiet = proto Quiet Close
 abbrev pub load : Proto
 load = proto Load (Send (int most (pos 0)) None)
 
+-- wait
+abbrev pub rest : Proto
+rest = proto Rest Wait
+
+-- recv [k: 0 <= k, k <= n] int(k) then Stop()
+abbrev pub ask : Proto
+ask = proto Ask (Recv asked (Some stop_end))
+
 abbrev pub examples : List Proto
-examples = ping ∷ go ∷ pong ∷ stop ∷ twice ∷ big ∷ wide ∷ far ∷ quiet ∷ load ∷ []
+examples = ping ∷ go ∷ pong ∷ stop ∷ twice ∷ big ∷ wide ∷ far ∷ quiet ∷ load ∷ rest ∷ ask ∷ []

@@ -1,16 +1,16 @@
-//! The protocols of the cases of `unfold`, and ends of them.
+//! The protocols of the cases of `unfold` and `dual`, and ends of them.
 ghost use Rattle.std.specs.Prelude.{◌≡◌, ◌∷◌, [], map, IfOk};
 ghost use Rattle.core_language.specs.Names.{same};
 ghost use Rattle.core_language.specs.Resources.{Branch};
-ghost use Rattle.chan_syntax.specs.Reading.{part_of, term_of, ref_of, res_of, equation_of, proto_of};
+ghost use Rattle.chan_syntax.specs.Reading.{part_of, term_of, limit_of, bound_of, ref_of, res_of, equation_of, proto_of};
 ghost use Rattle.protocols.specs.Unfolding.{HasArity};
 ghost use Rattle.rule_rows.specs.Examples as spec;
 
 use crate::trees::NOWHERE;
-use chan_base::Memory;
+use chan_base::{Memory, Spans};
 use chan_syntax::{
-    Bound, Equation, Ident, Idents, Limits, Part, Proto, Protos, Ref, Res, Shape, Spans, Term,
-    Terms,
+    Bound, Equation, Ident, Idents, Limit, Limits, Part, Proto, Protos, Ref, Relation, Res, Shape,
+    Term, Terms,
 };
 use sqlite_items::Items;
 use std::alloc::Global;
@@ -41,6 +41,63 @@ pub(crate) fn sum(alloc: Global, factor: i64, constant: i64) -> Result<Term, Mem
     Ok(Term {
         parts,
         span: NOWHERE,
+    })
+}
+
+/// A name alone.
+fn bare(alloc: Global, name: &[u8]) -> Result<Term, Memory>
+    ensures { IfOk result (λ term. term_of term ≡ spec.bare name.now) }
+{
+    let name = Ident::from_slice(alloc, name)?;
+    let mut parts = Items::new(alloc);
+    parts.push(part(1, Some(name)))?;
+    Ok(Term {
+        parts,
+        span: NOWHERE,
+    })
+}
+
+fn at_most(left: Term, right: Term) -> Limit
+    ensures { limit_of result ≡ spec.at_most (term_of left) (term_of right) }
+{
+    Limit {
+        left,
+        relation: Relation::AtMost,
+        right,
+    }
+}
+
+/// `0 <= k`
+fn low(alloc: Global) -> Result<Limit, Memory>
+    ensures { IfOk result (λ limit. limit_of limit ≡ spec.low) }
+{
+    let zero = sum(alloc, 0, 0)?;
+    let name = bare(alloc, b"k")?;
+    Ok(at_most(zero, name))
+}
+
+/// `k <= n`
+fn high(alloc: Global) -> Result<Limit, Memory>
+    ensures { IfOk result (λ limit. limit_of limit ≡ spec.high) }
+{
+    let name = bare(alloc, b"k")?;
+    let most = sum(alloc, 1, 0)?;
+    Ok(at_most(name, most))
+}
+
+/// `k: 0 <= k, k <= n`
+fn within(alloc: Global) -> Result<Bound, Memory>
+    ensures { IfOk result (λ bound. bound_of bound ≡ spec.within) }
+{
+    let mut names = Items::new(alloc);
+    names.push(Ident::from_slice(alloc, b"k")?)?;
+    let mut limits = Items::new(alloc);
+    limits.push(low(alloc)?)?;
+    limits.push(high(alloc)?)?;
+    Ok(Bound {
+        names,
+        names_spans: Spans::new(alloc),
+        limits,
     })
 }
 
@@ -204,6 +261,32 @@ fn load(alloc: Global) -> Result<Proto, Memory>
     proto(alloc, b"Load", Equation::Send(res, None))
 }
 
+fn rest(alloc: Global) -> Result<Proto, Memory>
+    ensures { IfOk result (λ proto. proto_of proto ≡ spec.rest) }
+{
+    proto(alloc, b"Rest", Equation::Wait)
+}
+
+/// `[k: 0 <= k, k <= n] int(k)`
+fn asked(alloc: Global) -> Result<Res, Memory>
+    ensures { IfOk result (λ res. res_of res ≡ spec.asked) }
+{
+    let bound = within(alloc)?;
+    let term = bare(alloc, b"k")?;
+    Ok(Res {
+        bound,
+        shape: Shape::Int(term),
+    })
+}
+
+fn ask(alloc: Global) -> Result<Proto, Memory>
+    ensures { IfOk result (λ proto. proto_of proto ≡ spec.ask) }
+{
+    let next = stop_end(alloc)?;
+    let res = asked(alloc)?;
+    proto(alloc, b"Ask", Equation::Recv(res, Some(next)))
+}
+
 pub(crate) fn protos(alloc: Global) -> Result<Protos, Memory>
     ensures { IfOk result (λ protos. map proto_of protos ≡ spec.examples) }
 {
@@ -218,6 +301,8 @@ pub(crate) fn protos(alloc: Global) -> Result<Protos, Memory>
         far(alloc)?,
         quiet(alloc)?,
         load(alloc)?,
+        rest(alloc)?,
+        ask(alloc)?,
     ]?;
     Ok(Protos::from_vec(all))
 }

@@ -135,32 +135,38 @@ fn reason(fault: CertFault) -> &'static [u8] {
     }
 }
 
-fn push_fault(alloc: Global, out: &mut Vec<u8>, fault: UnfoldFault) -> Result<(), Memory> {
+fn push_unfolded(alloc: Global, out: &mut Vec<u8>, unfolded: &Unfolded) -> Result<(), Memory> {
+    push_number(alloc, out, i128::from(unfolded.used))?;
+    push(out, b" ")?;
+    push_head(alloc, out, &unfolded.head)
+}
+
+fn push_fault(alloc: Global, out: &mut Vec<u8>, fault: &UnfoldFault) -> Result<(), Memory> {
     match fault {
         UnfoldFault::WrongForm => push(out, b"wrong form"),
         UnfoldFault::CertCount => push(out, b"no certificate"),
         UnfoldFault::BranchNotProved(number, fault) => {
-            push_number(alloc, out, i128::from(number))?;
+            push_number(alloc, out, i128::from(*number))?;
             push(out, b" not proved: ")?;
-            push(out, reason(fault))
+            push(out, reason(*fault))
         }
         UnfoldFault::TooLarge => push(out, b"too large"),
         UnfoldFault::Memory => Err(Memory),
     }
 }
 
-/// The head of an end and how many certificates were taken, or the fault, as a text.
-fn answer(alloc: Global, case: &Case<'_>) -> Result<Vec<u8>, Memory> {
+fn told(alloc: Global, answer: &Result<Unfolded, UnfoldFault>) -> Result<Vec<u8>, Memory> {
     let mut out = Vec::new(alloc);
-    match unfolded(alloc, case) {
-        Ok(unfolded) => {
-            push_number(alloc, &mut out, i128::from(unfolded.used))?;
-            push(&mut out, b" ")?;
-            push_head(alloc, &mut out, &unfolded.head)?;
-        }
+    match answer {
+        Ok(unfolded) => push_unfolded(alloc, &mut out, unfolded)?,
         Err(fault) => push_fault(alloc, &mut out, fault)?,
     }
     Ok(out)
+}
+
+/// The head of an end and how many certificates were taken, or the fault, as a text.
+fn answer(alloc: Global, case: &Case<'_>) -> Result<Vec<u8>, Memory> {
+    told(alloc, &unfolded(alloc, case))
 }
 
 const FIRST: &[Mentioned] = &[(false, 1, 0)];
@@ -221,6 +227,42 @@ fn an_end_has_the_head_of_its_way(rt: HostRuntime) -> Result<(), Fail> {
         (
             ((false, b"Load", N), &[], &[], LOW),
             b"0 send int +9223372036854775807*n",
+        ),
+    ];
+    for (case, want) in rows {
+        assert_eq!(rt; answer(rt.alloc(), &case)?.as_slice(), want);
+    }
+    Ok(())
+}
+
+#[test]
+fn an_end_that_ends_sends_or_receives_nothing(rt: HostRuntime) -> Result<(), Fail> {
+    let rows: [(Case<'_>, &[u8]); 4] = [
+        (((false, b"Quiet", N), &[], &[], LOW), b"0 send unit"),
+        (((true, b"Quiet", N), &[], &[], LOW), b"0 recv unit"),
+        (((false, b"Rest", N), &[], &[], LOW), b"0 recv unit"),
+        (((true, b"Rest", N), &[], &[], LOW), b"0 send unit"),
+    ];
+    for (case, want) in rows {
+        assert_eq!(rt; answer(rt.alloc(), &case)?.as_slice(), want);
+    }
+    Ok(())
+}
+
+#[test]
+fn a_message_keeps_its_binders_and_limits(rt: HostRuntime) -> Result<(), Fail> {
+    let rows: [(Case<'_>, &[u8]); 3] = [
+        (
+            ((false, b"Ask", N), &[], &[], LOW),
+            b"0 recv [k: +0 <= +1*k, +1*k <= +1*n] (int +1*k, end Stop)",
+        ),
+        (
+            ((true, b"Ask", (2, 1)), &[], &[], LOW),
+            b"0 send [k: +0 <= +1*k, +1*k <= +2*n+1] (int +1*k, end Stop)",
+        ),
+        (
+            ((false, b"Ask", (0, 9)), &[], &[], LOW),
+            b"0 recv [k: +0 <= +1*k, +1*k <= +9] (int +1*k, end Stop)",
         ),
     ];
     for (case, want) in rows {

@@ -1,6 +1,6 @@
-//! Terms and resources as texts that a table can hold.
+//! Terms, resources and protocols as texts that a table can hold.
 use chan_base::Memory;
-use chan_syntax::{Ident, Part, Ref, Res, Shape, Term};
+use chan_syntax::{Bound, Equation, Ident, Limit, Part, Proto, Ref, Relation, Res, Shape, Term};
 use std::alloc::Global;
 
 pub(crate) fn push(out: &mut Vec<u8>, text: &[u8]) -> Result<(), Memory> {
@@ -34,7 +34,7 @@ fn push_term(alloc: Global, out: &mut Vec<u8>, term: &Term) -> Result<(), Memory
     Ok(())
 }
 
-fn push_ref(alloc: Global, out: &mut Vec<u8>, end: &Ref) -> Result<(), Memory> {
+pub(crate) fn push_ref(alloc: Global, out: &mut Vec<u8>, end: &Ref) -> Result<(), Memory> {
     push(out, if end.dual { b"~" } else { b"" })?;
     push(out, end.name.as_slice())?;
     for arg in end.args.as_slice() {
@@ -44,13 +44,46 @@ fn push_ref(alloc: Global, out: &mut Vec<u8>, end: &Ref) -> Result<(), Memory> {
     Ok(())
 }
 
-fn push_binders(out: &mut Vec<u8>, names: &[Ident]) -> Result<(), Memory> {
+/// The names, with commas between them.
+fn push_names(out: &mut Vec<u8>, names: &[Ident]) -> Result<(), Memory> {
+    let mut between: &[u8] = b"";
     for name in names {
-        push(out, b"[")?;
+        push(out, between)?;
         push(out, name.as_slice())?;
-        push(out, b"] ")?;
+        between = b", ";
     }
     Ok(())
+}
+
+fn sign(relation: Relation) -> &'static [u8] {
+    match relation {
+        Relation::AtMost => b" <= ",
+        Relation::Less => b" < ",
+        Relation::Same => b" = ",
+    }
+}
+
+/// The limits, with commas between them.
+fn push_limits(alloc: Global, out: &mut Vec<u8>, limits: &[Limit]) -> Result<(), Memory> {
+    let mut between: &[u8] = b": ";
+    for limit in limits {
+        push(out, between)?;
+        push_term(alloc, out, &limit.left)?;
+        push(out, sign(limit.relation))?;
+        push_term(alloc, out, &limit.right)?;
+        between = b", ";
+    }
+    Ok(())
+}
+
+fn push_bound(alloc: Global, out: &mut Vec<u8>, bound: &Bound) -> Result<(), Memory> {
+    if bound.names.is_empty() {
+        return Ok(());
+    }
+    push(out, b"[")?;
+    push_names(out, bound.names.as_slice())?;
+    push_limits(alloc, out, bound.limits.as_slice())?;
+    push(out, b"] ")
 }
 
 #[cycle(spelling)]
@@ -72,18 +105,76 @@ fn push_shape(alloc: Global, out: &mut Vec<u8>, shape: &Shape) -> Result<(), Mem
             push_res(alloc, out, second.get())?;
             push(out, b")")
         }
-        Shape::Sum(left, right) => {
+        Shape::Sum(arms) => {
             push(out, b"{")?;
-            push_res(alloc, out, left.get())?;
-            push(out, b" | ")?;
-            push_res(alloc, out, right.get())?;
+            push_resources(alloc, out, arms.as_slice())?;
             push(out, b"}")
         }
     }
 }
 
 #[cycle(spelling)]
+fn push_resources(alloc: Global, out: &mut Vec<u8>, resources: &[Res]) -> Result<(), Memory> {
+    let mut behind = false;
+    for res in resources {
+        push(out, if behind { b" | " } else { b"" })?;
+        push_res(alloc, out, res)?;
+        behind = true;
+    }
+    Ok(())
+}
+
+#[cycle(spelling)]
 pub(crate) fn push_res(alloc: Global, out: &mut Vec<u8>, res: &Res) -> Result<(), Memory> {
-    push_binders(out, res.bound.names.as_slice())?;
+    push_bound(alloc, out, &res.bound)?;
     push_shape(alloc, out, &res.shape)
+}
+
+fn push_message(
+    alloc: Global,
+    out: &mut Vec<u8>,
+    res: &Res,
+    next: &Option<Ref>,
+) -> Result<(), Memory> {
+    push_res(alloc, out, res)?;
+    match next {
+        Some(next) => {
+            push(out, b" then ")?;
+            push_ref(alloc, out, next)
+        }
+        None => Ok(()),
+    }
+}
+
+fn push_equation(alloc: Global, out: &mut Vec<u8>, equation: &Equation) -> Result<(), Memory> {
+    match equation {
+        Equation::Send(res, next) => {
+            push(out, b"send ")?;
+            push_message(alloc, out, res, next)
+        }
+        Equation::Recv(res, next) => {
+            push(out, b"recv ")?;
+            push_message(alloc, out, res, next)
+        }
+        Equation::Close => push(out, b"close"),
+        Equation::Wait => push(out, b"wait"),
+        Equation::Branch(left, right, this, other) => {
+            push(out, b"if ")?;
+            push_term(alloc, out, left)?;
+            push(out, b" <= ")?;
+            push_term(alloc, out, right)?;
+            push(out, b" then ")?;
+            push_ref(alloc, out, this)?;
+            push(out, b" else ")?;
+            push_ref(alloc, out, other)
+        }
+    }
+}
+
+pub(crate) fn push_proto(alloc: Global, out: &mut Vec<u8>, proto: &Proto) -> Result<(), Memory> {
+    push(out, proto.name.as_slice())?;
+    push(out, b"(")?;
+    push_names(out, proto.params.as_slice())?;
+    push(out, b") = ")?;
+    push_equation(alloc, out, &proto.equation)
 }

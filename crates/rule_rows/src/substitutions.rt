@@ -1,9 +1,8 @@
 //! Cases of terms that are put in for names.
 use crate::spelling::{push, push_res};
-use crate::trees::{NONE, Times, names, pair, term};
+use crate::trees::{NONE, Times, names, pair, terms};
 use chan_base::Memory;
 use chan_syntax::{Idents, Res, Terms};
-use sqlite_items::Items;
 use std::alloc::Global;
 use std::test::Fail;
 use substitution::{SubstFault, subst};
@@ -12,12 +11,7 @@ const MOST: i64 = 9223372036854775807;
 
 const LEAST: i64 = -9223372036854775808;
 
-fn terms(alloc: Global, first: &[Times], second: &[Times]) -> Result<Terms, Memory> {
-    let mut terms = Items::new(alloc);
-    terms.push(term(alloc, first)?)?;
-    terms.push(term(alloc, second)?)?;
-    Ok(terms)
-}
+const HALF: i64 = -4611686018427387904;
 
 /// The resource with the terms put in, where there are as many as names.
 fn put_in(alloc: Global, res: &Res, names: &Idents, by: &Terms) -> Result<Res, SubstFault> {
@@ -27,10 +21,10 @@ fn put_in(alloc: Global, res: &Res, names: &Idents, by: &Terms) -> Result<Res, S
     subst(alloc, res, names, by)
 }
 
-fn text(alloc: Global, answer: Result<Res, SubstFault>) -> Result<Vec<u8>, Memory> {
+fn text(alloc: Global, answer: &Result<Res, SubstFault>) -> Result<Vec<u8>, Memory> {
     let mut out = Vec::new(alloc);
     match answer {
-        Ok(res) => push_res(alloc, &mut out, &res)?,
+        Ok(res) => push_res(alloc, &mut out, res)?,
         Err(SubstFault::TooLarge) => push(&mut out, b"too large")?,
         Err(SubstFault::Memory) => return Err(Memory),
     }
@@ -38,7 +32,7 @@ fn text(alloc: Global, answer: Result<Res, SubstFault>) -> Result<Vec<u8>, Memor
 }
 
 /// A resource with a term put in for each of two names.
-fn answer(
+pub(crate) fn answer(
     alloc: Global,
     res: &Res,
     put: &[u8],
@@ -46,13 +40,13 @@ fn answer(
     second: &[Times],
 ) -> Result<Vec<u8>, Memory> {
     let names = names(alloc, put)?;
-    let by = terms(alloc, first, second)?;
-    text(alloc, put_in(alloc, res, &names, &by))
+    let by = terms(alloc, &[first, second])?;
+    text(alloc, &put_in(alloc, res, &names, &by))
 }
 
 #[test]
 fn terms_are_put_in_at_once_and_in_normal_form(rt: HostRuntime) -> Result<(), Fail> {
-    let rows: [(&[Times], &[u8], &[Times], &[Times], &[u8]); 9] = [
+    let rows: [(&[Times], &[u8], &[Times], &[Times], &[u8]); 12] = [
         (&[(5, NONE)], b"ab", &[(7, NONE)], &[], b"(int +5, unit)"),
         (
             &[(1, b'd'), (1, b'c')],
@@ -95,6 +89,27 @@ fn terms_are_put_in_at_once_and_in_normal_form(rt: HostRuntime) -> Result<(), Fa
             &[(LEAST, NONE)],
             &[],
             b"(int +-9223372036854775808, unit)",
+        ),
+        (
+            &[(1, b'a'), (1, b'b')],
+            b"ab",
+            &[(HALF, b'b')],
+            &[(HALF, b'b')],
+            b"(int +-9223372036854775808*b, unit)",
+        ),
+        (
+            &[(2, b'a'), (-1, NONE)],
+            b"ab",
+            &[(2, b'b')],
+            &[(1, b'a')],
+            b"(int +4*b-1, unit)",
+        ),
+        (
+            &[(2, b'a'), (-1, NONE)],
+            b"ab",
+            &[(HALF, NONE)],
+            &[],
+            b"too large",
         ),
         (&[(2, b'a')], b"ab", &[(MOST, b'b')], &[], b"too large"),
         (&[(-1, b'a')], b"ab", &[(LEAST, NONE)], &[], b"too large"),

@@ -1,6 +1,8 @@
 //! Trees of what a table holds.
-use chan_base::Memory;
-use chan_syntax::{Bound, Ident, Idents, Part, Res, Shape, Span, Term};
+use chan_base::{Memory, Span};
+use chan_syntax::{
+    Bound, Ident, Idents, Limit, Limits, Part, Ref, Relation, Res, Shape, Term, Terms,
+};
 use sqlite_items::{Boxed, Items};
 use std::alloc::Global;
 
@@ -16,6 +18,9 @@ pub(crate) type Times = (i64, u8);
 
 /// No name.
 pub(crate) const NONE: u8 = 0;
+
+/// A limit: a term, how it stands to another, and that one.
+pub(crate) type Within<'a> = (&'a [Times], Relation, &'a [Times]);
 
 fn part(alloc: Global, times: &Times) -> Result<Part, Memory> {
     let name = if times.1 == NONE {
@@ -42,6 +47,14 @@ pub(crate) fn term(alloc: Global, times: &[Times]) -> Result<Term, Memory> {
     })
 }
 
+pub(crate) fn terms(alloc: Global, all: &[&[Times]]) -> Result<Terms, Memory> {
+    let mut terms = Items::new(alloc);
+    for times in all {
+        terms.push(term(alloc, times)?)?;
+    }
+    Ok(terms)
+}
+
 /// A name for each byte.
 pub(crate) fn names(alloc: Global, letters: &[u8]) -> Result<Idents, Memory> {
     let mut names = Items::new(alloc);
@@ -51,14 +64,73 @@ pub(crate) fn names(alloc: Global, letters: &[u8]) -> Result<Idents, Memory> {
     Ok(names)
 }
 
-fn res(alloc: Global, binders: &[u8], shape: Shape) -> Result<Res, Memory> {
+fn limit(alloc: Global, within: &Within<'_>) -> Result<Limit, Memory> {
+    Ok(Limit {
+        left: term(alloc, within.0)?,
+        relation: within.1,
+        right: term(alloc, within.2)?,
+    })
+}
+
+fn limits(alloc: Global, all: &[Within<'_>]) -> Result<Limits, Memory> {
+    let mut limits = Items::new(alloc);
+    for within in all {
+        limits.push(limit(alloc, within)?)?;
+    }
+    Ok(limits)
+}
+
+/// Binders that keep limits.
+pub(crate) fn bound(alloc: Global, binders: &[u8], all: &[Within<'_>]) -> Result<Bound, Memory> {
+    Ok(Bound {
+        names: names(alloc, binders)?,
+        names_spans: Items::new(alloc),
+        limits: limits(alloc, all)?,
+    })
+}
+
+/// An integer under binders that keep limits.
+pub(crate) fn int_within(
+    alloc: Global,
+    binders: &[u8],
+    all: &[Within<'_>],
+    times: &[Times],
+) -> Result<Res, Memory> {
+    let bound = bound(alloc, binders, all)?;
     Ok(Res {
-        bound: Bound {
-            names: names(alloc, binders)?,
-            names_spans: Items::new(alloc),
-            limits: Items::new(alloc),
-        },
-        shape,
+        bound,
+        shape: Shape::Int(term(alloc, times)?),
+    })
+}
+
+/// An integer under binders.
+pub(crate) fn int(alloc: Global, binders: &[u8], times: &[Times]) -> Result<Res, Memory> {
+    int_within(alloc, binders, &[], times)
+}
+
+fn nothing(alloc: Global) -> Result<Res, Memory> {
+    Ok(Res {
+        bound: bound(alloc, b"", &[])?,
+        shape: Shape::Unit,
+    })
+}
+
+fn dual_ref(alloc: Global, args: &[&[Times]]) -> Result<Ref, Memory> {
+    Ok(Ref {
+        dual: true,
+        name: Ident::from_slice(alloc, b"P")?,
+        name_span: NOWHERE,
+        args: terms(alloc, args)?,
+        span: NOWHERE,
+    })
+}
+
+/// The dual end of a protocol at some terms, under binders.
+pub(crate) fn dual_end(alloc: Global, binders: &[u8], args: &[&[Times]]) -> Result<Res, Memory> {
+    let bound = bound(alloc, binders, &[])?;
+    Ok(Res {
+        bound,
+        shape: Shape::End(dual_ref(alloc, args)?),
     })
 }
 
@@ -70,9 +142,11 @@ pub(crate) fn pair(
     inner: &[u8],
     times: &[Times],
 ) -> Result<Res, Memory> {
-    let int = res(alloc, inner, Shape::Int(term(alloc, times)?))?;
-    let nothing = res(alloc, b"", Shape::Unit)?;
-    let first = Boxed::new(alloc, int)?;
-    let second = Boxed::new(alloc, nothing)?;
-    res(alloc, outer, Shape::Pair(first, second))
+    let bound = bound(alloc, outer, &[])?;
+    let first = Boxed::new(alloc, int(alloc, inner, times)?)?;
+    let second = Boxed::new(alloc, nothing(alloc)?)?;
+    Ok(Res {
+        bound,
+        shape: Shape::Pair(first, second),
+    })
 }

@@ -1,8 +1,8 @@
 -- What the form passes find in the parts of a tree, whatever numbers its nodes have.
-use Rattle.std.proofs.Common.{◌≡◌, ℕ, List, [], ◌∷◌, ◌++◌, length, map, Option, Some, None, slice_get, refl, sym, ap, ◌∙◌, subst, if◌then◌else◌, ◌||◌, inl, inr, ⊎_elim}
+use Rattle.std.proofs.Common.{◌≡◌, ℕ, zero, suc, List, [], ◌∷◌, ◌++◌, length, map, Option, Some, None, slice_get, refl, sym, ap, ◌∙◌, subst, if◌then◌else◌, ◌||◌, inl, inr, ⊎_elim}
 use Rattle.std.specs.List.{list_any}
 use Rattle.chan_syntax.specs.declared.surface_tree.Stmt.{Stmt, Let, Mul, Div, Rem, Call, Fork, ForkDo', Send1, Recv1, Send, Recv, Close, Wait, Choose, Split, Print, Row_of-Stmt, end_of-Stmt, more_of-Stmt}
-use Rattle.chan_syntax.specs.declared.surface_tree.Last.{Last, Ret, Tail, If', Match', Branch', Absurd, Loop', Again, Row_of-Last, end_of-Last, more_of-Last}
+use Rattle.chan_syntax.specs.declared.surface_tree.Last.{Last, Ret, Tail, If', Match', Branch', Absurd, Loop', Again, Row_of-Last, end_of-Last, more_of-Last, Row_of-SurfaceArm, end_of-SurfaceArm, more_of-SurfaceArm}
 use Rattle.chan_syntax.specs.declared.surface_tree.Block.{Block}
 use Rattle.chan_syntax.specs.declared.surface_tree.Body.TheVariants as body
 use Rattle.chan_syntax.specs.declared.surface_tree.Decl.{Decl}
@@ -21,19 +21,24 @@ use Rattle.form_faults.specs.Resources.{header_scope, header_faults}
 use Rattle.protocol_guard.specs.Guards.{IsGuarded}
 use Rattle.core_programs.specs.declared.nodes.Node.{Node}
 use Rattle.core_programs.specs.declared.nodes.Node.TheVariants as node
+use Rattle.core_programs.specs.declared.nodes.Arm.{Arm}
 use Rattle.core_programs.specs.declared.nodes.Func.{Func}
 use Rattle.core_programs.specs.declared.nodes.Parts.{Parts}
 use Rattle.core_programs.specs.Formed.{nexts, IsNumbered}
-use Rattle.core_programs.specs.Trees.{Tree, Nothing, Grown, at_number, grown, tree}
-use Rattle.core_programs.specs.Passes.{operand_faults, first_binders, second_binders, body_faults, func_faults, funcs_faults, func_names, func_signatures, proto_names, proto_signatures, protos_faults, is_main, no_main, twice_faults, name_faults, count_faults, main_faults}
+use Rattle.core_programs.specs.Trees.{Tree, Grown, Trees, NoMore, More, all_grown, grown, tree}
+use Rattle.core_programs.specs.Passes.{operand_faults, arm_binders, binders_at, body_faults, bodies_faults, func_faults, funcs_faults, func_names, func_signatures, proto_names, proto_signatures, protos_faults, is_main, no_main, twice_faults, name_faults, count_faults, main_faults}
 use Rattle.core_programs.specs.Form.{IsUnguarded, Passes}
 use Rattle.core_programs.proofs.Growing.{tree_grown}
-use Rattle.session_layer.specs.Lowering.{At, IsNodeOf, StmtsAt, RowAt, EndsAt, BoxedAt, IsBodyAt, AreOf, proto_of, func_of}
+use Rattle.statement_nodes.specs.Nodes.{IsNodeOf}
+use Rattle.session_layer.specs.Lowering.{At, StmtsAt, RowAt, EndsAt, ArmsAt, BoxedAt, IsBodyAt, AreOf, proto_of, func_of}
 use Rattle.session_layer.specs.Pure.{IsOneForm}
 use Rattle.session_layer.proofs.Places.{place_below}
 use Rattle.session_layer.proofs.Grown.{names_next}
 
 -- ---- nodes without their numbers
+
+abbrev blank_arm : Arm → Arm
+blank_arm arm = record { pat = arm.pat; next = 0 }
 
 abbrev blank : Node → Node
 blank (node.Let n nt t i span) = node.Let n nt t 0 span
@@ -48,7 +53,7 @@ blank (node.Recv1 y c ct p pt q i span) = node.Recv1 y c ct p pt q 0 span
 blank (node.Print t i span) = node.Print t 0 span
 blank (node.If a b i j span) = node.If a b 0 0 span
 blank (node.Split a b n nt i span) = node.Split a b n nt 0 span
-blank (node.Match n nt a i b j span) = node.Match n nt a 0 b 0 span
+blank (node.Match n nt arms span) = node.Match n nt (map blank_arm arms) span
 blank (node.Absurd q span) = node.Absurd q span
 blank (node.Ret v q span) = node.Ret v q span
 
@@ -66,45 +71,32 @@ blank_operands ps fs scope (node.Recv1 y c ct p pt q i span) = refl
 blank_operands ps fs scope (node.Print t i span) = refl
 blank_operands ps fs scope (node.If a b i j span) = refl
 blank_operands ps fs scope (node.Split a b n nt i span) = refl
-blank_operands ps fs scope (node.Match n nt a i b j span) = refl
+blank_operands ps fs scope (node.Match n nt arms span) = refl
 blank_operands ps fs scope (node.Absurd q span) = refl
 blank_operands ps fs scope (node.Ret v q span) = refl
 
-blank_first : (x : Node) → first_binders (blank x) ≡ first_binders x
-unfolding first_binders
-blank_first (node.Let n nt t i span) = refl
-blank_first (node.Mul n nt a b i span) = refl
-blank_first (node.Div n nt t k kt i span) = refl
-blank_first (node.Rem n nt t k kt i span) = refl
-blank_first (node.Call p f ft vs q i span) = refl
-blank_first (node.Tail f ft vs q span) = refl
-blank_first (node.Fork n nt r f ft vs q i span) = refl
-blank_first (node.Send1 c ct p pt v q i span) = refl
-blank_first (node.Recv1 y c ct p pt q i span) = refl
-blank_first (node.Print t i span) = refl
-blank_first (node.If a b i j span) = refl
-blank_first (node.Split a b n nt i span) = refl
-blank_first (node.Match n nt a i b j span) = refl
-blank_first (node.Absurd q span) = refl
-blank_first (node.Ret v q span) = refl
+blank_arms : (arms : List Arm) (turn : ℕ) → arm_binders (slice_get (map blank_arm arms) turn) ≡ arm_binders (slice_get arms turn)
+blank_arms [] turn = refl
+blank_arms (a ∷ arms) zero = refl
+blank_arms (a ∷ arms) (suc turn) = blank_arms arms turn
 
-blank_second : (x : Node) → second_binders (blank x) ≡ second_binders x
-unfolding second_binders
-blank_second (node.Let n nt t i span) = refl
-blank_second (node.Mul n nt a b i span) = refl
-blank_second (node.Div n nt t k kt i span) = refl
-blank_second (node.Rem n nt t k kt i span) = refl
-blank_second (node.Call p f ft vs q i span) = refl
-blank_second (node.Tail f ft vs q span) = refl
-blank_second (node.Fork n nt r f ft vs q i span) = refl
-blank_second (node.Send1 c ct p pt v q i span) = refl
-blank_second (node.Recv1 y c ct p pt q i span) = refl
-blank_second (node.Print t i span) = refl
-blank_second (node.If a b i j span) = refl
-blank_second (node.Split a b n nt i span) = refl
-blank_second (node.Match n nt a i b j span) = refl
-blank_second (node.Absurd q span) = refl
-blank_second (node.Ret v q span) = refl
+blank_binders : (x : Node) (turn : ℕ) → binders_at (blank x) turn ≡ binders_at x turn
+unfolding binders_at
+blank_binders (node.Let n nt t i span) turn = refl
+blank_binders (node.Mul n nt a b i span) turn = refl
+blank_binders (node.Div n nt t k kt i span) turn = refl
+blank_binders (node.Rem n nt t k kt i span) turn = refl
+blank_binders (node.Call p f ft vs q i span) turn = refl
+blank_binders (node.Tail f ft vs q span) turn = refl
+blank_binders (node.Fork n nt r f ft vs q i span) turn = refl
+blank_binders (node.Send1 c ct p pt v q i span) turn = refl
+blank_binders (node.Recv1 y c ct p pt q i span) turn = refl
+blank_binders (node.Print t i span) turn = refl
+blank_binders (node.If a b i j span) turn = refl
+blank_binders (node.Split a b n nt i span) turn = refl
+blank_binders (node.Match n nt arms span) turn = blank_arms arms turn
+blank_binders (node.Absurd q span) turn = refl
+blank_binders (node.Ret v q span) turn = refl
 
 -- nodes of one statement
 blank_stmt : (s : Stmt) (i j : ℕ) (x y : Node) → IsNodeOf s i x → IsNodeOf s j y → blank x ≡ blank y
@@ -130,17 +122,28 @@ blank_stmt (Print _ _) i j x y of of' = ap blank of ∙ sym (ap blank of')
 abbrev SameFaults : Tree → Tree → Type 0
 SameFaults t u = (ps fs : List Signature) (scope : List Known) → body_faults ps fs scope t ≡ body_faults ps fs scope u
 
-grown_alike : (x y : Node) (t t' u u' : Tree) → blank x ≡ blank y → SameFaults t t' → SameFaults u u' → SameFaults (Grown x t u) (Grown y t' u')
-unfolding body_faults
-grown_alike x y t t' u u' same first second ps fs scope =
-    let operands : operand_faults ps fs scope x ≡ operand_faults ps fs scope y = sym (blank_operands ps fs scope x) ∙ (ap (operand_faults ps fs scope) same ∙ blank_operands ps fs scope y) in
-    let firsts : first_binders x ≡ first_binders y = sym (blank_first x) ∙ (ap first_binders same ∙ blank_first y) in
-    let seconds : second_binders x ≡ second_binders y = sym (blank_second x) ∙ (ap second_binders same ∙ blank_second y) in
-    (λ k. operands k ++ ((twice_all scope (firsts k) ++ body_faults ps fs (bind_all scope (firsts k)) t) ++ (twice_all scope (seconds k) ++ body_faults ps fs (bind_all scope (seconds k)) u)))
-    ∙ (λ k. operand_faults ps fs scope y ++ ((twice_all scope (first_binders y) ++ first ps fs (bind_all scope (first_binders y)) k) ++ (twice_all scope (second_binders y) ++ second ps fs (bind_all scope (second_binders y)) k)))
+-- one by one
+abbrev SameAll : Trees → Trees → Type 0
+SameAll NoMore NoMore = Unit {0}
+SameAll NoMore (More u us) = ⊥
+SameAll (More t ts) NoMore = ⊥
+SameAll (More t ts) (More u us) = SameFaults t u × SameAll ts us
 
-nothing_alike : SameFaults Nothing Nothing
-nothing_alike ps fs scope = refl
+bodies_alike : (x y : Node) → blank x ≡ blank y → (turn : ℕ) (ts us : Trees) → SameAll ts us → (ps fs : List Signature) (scope : List Known) → bodies_faults ps fs scope x turn ts ≡ bodies_faults ps fs scope y turn us
+unfolding bodies_faults
+bodies_alike x y same turn NoMore NoMore all ps fs scope = refl
+bodies_alike x y same turn NoMore (More u us) all ps fs scope = absurd all
+bodies_alike x y same turn (More t ts) NoMore all ps fs scope = absurd all
+bodies_alike x y same turn (More t ts) (More u us) all ps fs scope =
+    let binders : binders_at x turn ≡ binders_at y turn = sym (blank_binders x turn) ∙ (ap (λ z. binders_at z turn) same ∙ blank_binders y turn) in
+    (λ k. (twice_all scope (binders k) ++ body_faults ps fs (bind_all scope (binders k)) t) ++ bodies_alike x y same (suc turn) ts us all.1 ps fs scope k)
+    ∙ ap (λ ills. (twice_all scope (binders_at y turn) ++ ills) ++ bodies_faults ps fs scope y (suc turn) us) (all.0 ps fs (bind_all scope (binders_at y turn)))
+
+grown_alike : (x y : Node) (ts us : Trees) → blank x ≡ blank y → SameAll ts us → SameFaults (Grown x ts) (Grown y us)
+unfolding body_faults
+grown_alike x y ts us same all ps fs scope =
+    let operands : operand_faults ps fs scope x ≡ operand_faults ps fs scope y = sym (blank_operands ps fs scope x) ∙ (ap (operand_faults ps fs scope) same ∙ blank_operands ps fs scope y) in
+    λ k. operands k ++ bodies_alike x y same 0 ts us all ps fs scope k
 
 -- ---- what the passes see of functions
 
@@ -193,16 +196,16 @@ module _ (parts others : Parts) (numbered : IsNumbered parts) (renumbered : IsNu
   -- nodes that name none
   leaf_alike : (n m : ℕ) (x : Node) → nexts x ≡ [] → At parts.nodes n x → At others.nodes m x → SameFaults (tree parts.nodes n) (tree others.nodes m)
   leaf_alike n m x none here there = at_alike n m x x here there (λ ps fs scope.
-      ap (λ ns. body_faults ps fs scope (Grown x (at_number (slice_get ns 0) (tree parts.nodes)) (at_number (slice_get ns 1) (tree parts.nodes)))) none
-      ∙ sym (ap (λ ns. body_faults ps fs scope (Grown x (at_number (slice_get ns 0) (tree others.nodes)) (at_number (slice_get ns 1) (tree others.nodes)))) none))
+      ap (λ ns. body_faults ps fs scope (Grown x (all_grown ns (tree parts.nodes)))) none
+      ∙ sym (ap (λ ns. body_faults ps fs scope (Grown x (all_grown ns (tree others.nodes)))) none))
 
   -- nodes of one statement
   stmt_alike : (s : Stmt) (n m i j : ℕ) (x y : Node) → At parts.nodes n x → At others.nodes m y → IsNodeOf s i x → IsNodeOf s j y → SameFaults (tree parts.nodes i) (tree others.nodes j)
       → SameFaults (tree parts.nodes n) (tree others.nodes m)
   stmt_alike s n m i j x y here there of of' same = at_alike n m x y here there (λ ps fs scope.
-      ap (λ ns. body_faults ps fs scope (Grown x (at_number (slice_get ns 0) (tree parts.nodes)) (at_number (slice_get ns 1) (tree parts.nodes)))) (names_next s i x of)
-      ∙ (grown_alike x y (tree parts.nodes i) (tree others.nodes j) Nothing Nothing (blank_stmt s i j x y of of') same nothing_alike ps fs scope
-      ∙ sym (ap (λ ns. body_faults ps fs scope (Grown y (at_number (slice_get ns 0) (tree others.nodes)) (at_number (slice_get ns 1) (tree others.nodes)))) (names_next s j y of'))))
+      ap (λ ns. body_faults ps fs scope (Grown x (all_grown ns (tree parts.nodes)))) (names_next s i x of)
+      ∙ (grown_alike x y (More (tree parts.nodes i) NoMore) (More (tree others.nodes j) NoMore) (blank_stmt s i j x y of of') (same, tt) ps fs scope
+      ∙ sym (ap (λ ns. body_faults ps fs scope (Grown y (all_grown ns (tree others.nodes)))) (names_next s j y of'))))
 
   stmts_alike : (ss : List Stmt) (n m i j : ℕ) → StmtsAt parts.nodes ss n i → StmtsAt others.nodes ss m j → SameFaults (tree parts.nodes i) (tree others.nodes j) → SameFaults (tree parts.nodes n) (tree others.nodes m)
   stmts_alike [] n m i j at at' same = λ ps fs scope. ap (λ k. body_faults ps fs scope (tree parts.nodes k)) at ∙ (same ps fs scope ∙ sym (ap (λ k. body_faults ps fs scope (tree others.nodes k)) at'))
@@ -214,24 +217,45 @@ module _ (parts others : Parts) (numbered : IsNumbered parts) (renumbered : IsNu
   row_alike (more_of-Stmt s ss) n m i j (x, next, here, of, more) (y, next', there, of', more') same =
       stmt_alike s n m next next' x y here there of of' (row_alike ss next next' i j more more' same)
 
+  -- arms of one match
+  arms_blank : {k : _} (r : Row_of-SurfaceArm k) (arms bs : List Arm) → ArmsAt parts.nodes r arms → ArmsAt others.nodes r bs → map blank_arm arms ≡ map blank_arm bs
+  unfolding ArmsAt
+  arms_blank end_of-SurfaceArm [] [] at at' = refl
+  arms_blank end_of-SurfaceArm [] (b ∷ bs) at at' = absurd at'
+  arms_blank end_of-SurfaceArm (a ∷ arms) bs at at' = absurd at
+  arms_blank (more_of-SurfaceArm p _ ss _ l rest) [] bs at at' = absurd at
+  arms_blank (more_of-SurfaceArm p _ ss _ l rest) (a ∷ arms) [] at at' = absurd at'
+  arms_blank (more_of-SurfaceArm p _ ss _ l rest) (a ∷ arms) (b ∷ bs) (m, same, row, ends, at) (m', same', row', ends', at') =
+      let pats = same ∙ sym same' in λ k. record { pat = pats k; next = 0 } ∷ arms_blank rest arms bs at at' k
+
   mutual
-    unfolding EndsAt BoxedAt
+    unfolding EndsAt ArmsAt BoxedAt
 
     last_alike : (x : Last) (n m : ℕ) → EndsAt parts.nodes x n → EndsAt others.nodes x m → SameFaults (tree parts.nodes n) (tree others.nodes m)
     last_alike (Ret v q span) n m at at' = leaf_alike n m (node.Ret v q span) refl at at'
     last_alike (Tail f ft vs q span) n m at at' = leaf_alike n m (node.Tail f ft vs q span) refl at at'
     last_alike (If' a b _ ss _ l _ ss' _ l' span) n m (i, j, k, h, at, row, ends, row', ends') (i', j', k', h', at', row2, ends2, row2', ends2') =
         at_alike n m (node.If a b i j span) (node.If a b i' j' span) at at'
-        (grown_alike (node.If a b i j span) (node.If a b i' j' span) (tree parts.nodes i) (tree others.nodes i') (tree parts.nodes j) (tree others.nodes j') refl
-        (row_alike ss i i' k k' row row2 (boxed_alike l k k' ends ends2)) (row_alike ss' j j' h h' row' row2' (boxed_alike l' h h' ends' ends2')))
-    last_alike (Match' x xt p _ ss _ l q _ ss' _ l' span) n m (i, j, k, h, at, row, ends, row', ends') (i', j', k', h', at', row2, ends2, row2', ends2') =
-        at_alike n m (node.Match x xt p i q j span) (node.Match x xt p i' q j' span) at at'
-        (grown_alike (node.Match x xt p i q j span) (node.Match x xt p i' q j' span) (tree parts.nodes i) (tree others.nodes i') (tree parts.nodes j) (tree others.nodes j') refl
-        (row_alike ss i i' k k' row row2 (boxed_alike l k k' ends ends2)) (row_alike ss' j j' h h' row' row2' (boxed_alike l' h h' ends' ends2')))
-    last_alike (Branch' _ _ _ _ _ _ _ _ _ _ _ _ _ _ _ _ _ _) n m at at' = absurd at
+        (grown_alike (node.If a b i j span) (node.If a b i' j' span) (More (tree parts.nodes i) (More (tree parts.nodes j) NoMore)) (More (tree others.nodes i') (More (tree others.nodes j') NoMore)) refl
+        (row_alike ss i i' k k' row row2 (boxed_alike l k k' ends ends2), (row_alike ss' j j' h h' row' row2' (boxed_alike l' h h' ends' ends2'), tt)))
+    last_alike (Match' x xt _ r span) n m (arms, at, all) (arms', at', all') =
+        at_alike n m (node.Match x xt arms span) (node.Match x xt arms' span) at at'
+        (grown_alike (node.Match x xt arms span) (node.Match x xt arms' span) (all_grown (map (λ a. a.next) arms) (tree parts.nodes)) (all_grown (map (λ a. a.next) arms') (tree others.nodes))
+        (ap (λ bs. node.Match x xt bs span) (arms_blank r arms arms' all all')) (arms_alike r arms arms' all all'))
+    last_alike (Branch' _ _ _ _ _ _ _ _ _ _ _ _) n m at at' = absurd at
     last_alike (Absurd q span) n m at at' = leaf_alike n m (node.Absurd q span) refl at at'
     last_alike (Loop' _ _ _ _ _ _ _ _ _ _ _) n m at at' = absurd at
     last_alike (Again _ _ _) n m at at' = absurd at
+
+    arms_alike : {k : _} (r : Row_of-SurfaceArm k) (arms others_arms : List Arm) → ArmsAt parts.nodes r arms → ArmsAt others.nodes r others_arms
+        → SameAll (all_grown (map (λ a. a.next) arms) (tree parts.nodes)) (all_grown (map (λ a. a.next) others_arms) (tree others.nodes))
+    arms_alike end_of-SurfaceArm [] [] at at' = tt
+    arms_alike end_of-SurfaceArm [] (b ∷ bs) at at' = absurd at'
+    arms_alike end_of-SurfaceArm (a ∷ arms) bs at at' = absurd at
+    arms_alike (more_of-SurfaceArm p _ ss _ l rest) [] bs at at' = absurd at
+    arms_alike (more_of-SurfaceArm p _ ss _ l rest) (a ∷ arms) [] at at' = absurd at'
+    arms_alike (more_of-SurfaceArm p _ ss _ l rest) (a ∷ arms) (b ∷ bs) (m, same, row, ends, at) (m', same', row', ends', at') =
+        (row_alike ss a.next b.next m m' row row' (boxed_alike l m m' ends ends'), arms_alike rest arms bs at at')
 
     boxed_alike : {k : _} (x : Row_of-Last k) (n m : ℕ) → BoxedAt parts.nodes x n → BoxedAt others.nodes x m → SameFaults (tree parts.nodes n) (tree others.nodes m)
     boxed_alike end_of-Last n m at at' = absurd at

@@ -1,7 +1,7 @@
 pub mod Places
 pub mod Roots
-pub mod CoreBlocks
 pub mod Grown
 pub mod Drafted
 pub mod Said
 pub mod Forms
+pub mod Taken

@@ -1,9 +1,9 @@
 -- The parts of a tree make the program that it says.
-use Rattle.std.proofs.Common.{◌≡◌, ℕ, List, [], ◌∷◌, ◌++◌, map, sym, ap, ◌∙◌}
+use Rattle.std.proofs.Common.{◌≡◌, ℕ, List, [], ◌∷◌, ◌++◌, map, refl, sym, ap, ◌∙◌}
 use Rattle.core_language.specs.Programs as core
 use Rattle.chan_syntax.specs.Reading.{term_of, bound_of, res_of, equation_of, pat_of, proto_of}
 use Rattle.chan_syntax.specs.declared.surface_tree.Stmt.{Stmt, Let, Mul, Div, Rem, Call, Fork, ForkDo', Send1, Recv1, Send, Recv, Close, Wait, Choose, Split, Print, Row_of-Stmt, end_of-Stmt, more_of-Stmt}
-use Rattle.chan_syntax.specs.declared.surface_tree.Last.{Last, Ret, Tail, If', Match', Branch', Absurd, Loop', Again, Row_of-Last, end_of-Last, more_of-Last}
+use Rattle.chan_syntax.specs.declared.surface_tree.Last.{Last, Ret, Tail, If', Match', Branch', Absurd, Loop', Again, Row_of-Last, end_of-Last, more_of-Last, Row_of-SurfaceArm, end_of-SurfaceArm, more_of-SurfaceArm}
 use Rattle.chan_syntax.specs.declared.surface_tree.Block.{Block}
 use Rattle.chan_syntax.specs.declared.surface_tree.Decl.{Decl}
 use Rattle.chan_syntax.specs.declared.surface_tree.Decl.TheVariants as decl
@@ -13,11 +13,13 @@ use Rattle.core_programs.specs.declared.nodes.Node.{Node}
 use Rattle.core_programs.specs.declared.nodes.Node.TheVariants as node
 use Rattle.core_programs.specs.declared.nodes.Func.{Func}
 use Rattle.core_programs.specs.declared.nodes.Parts.{Parts}
-use Rattle.core_programs.specs.Bodies.{span_of, opened, rest, param_of, function_of}
+use Rattle.core_programs.specs.declared.nodes.Arm.{Arm}
+use Rattle.core_programs.specs.Bodies.{span_of, arms_opened, opened, rest, param_of, function_of}
 use Rattle.core_programs.specs.Formed.{IsNumbered}
 use Rattle.core_programs.proofs.Forests.{rest_opened}
-use Rattle.session_layer.specs.Lowering.{At, IsNodeOf, StmtsAt, RowAt, EndsAt, BoxedAt, IsBodyAt, AreOf}
-use Rattle.session_layer.specs.Pure.{stmt_in, stmts_in, last_in, row_in, boxed_in, block_in, protos_in, funcs_in, proto_in, SaysTheTree, IsOneProgram}
+use Rattle.statement_nodes.specs.Nodes.{IsNodeOf}
+use Rattle.session_layer.specs.Lowering.{At, StmtsAt, RowAt, EndsAt, ArmsAt, BoxedAt, IsBodyAt, AreOf}
+use Rattle.session_layer.specs.Pure.{stmt_in, stmts_in, last_in, row_in, arms_in, boxed_in, block_in, protos_in, funcs_in, proto_in, SaysTheTree, IsOneProgram}
 use Rattle.session_layer.proofs.Places.{place_below}
 
 opened_stmt : (s : Stmt) (next : ℕ) (x : Node) (at : ℕ → core.Body) → IsNodeOf s next x → opened x at ≡ stmt_in s (at next)
@@ -58,7 +60,7 @@ module _ (parts : Parts) (numbered : IsNumbered parts) where
   said_row (more_of-Stmt s ss) n m (x, next, is, of, more) = opens n x is ∙ (opened_stmt s next x (rest parts.nodes) of ∙ ap (stmt_in s) (said_row ss next m more))
 
   mutual
-    unfolding EndsAt BoxedAt last_in boxed_in
+    unfolding EndsAt ArmsAt BoxedAt last_in arms_in boxed_in
 
     said_last : (x : Last) (n : ℕ) → EndsAt parts.nodes x n → rest parts.nodes n ≡ last_in x
     said_last (Ret v q span) n at = opens n (node.Ret v q span) at
@@ -67,14 +69,18 @@ module _ (parts : Parts) (numbered : IsNumbered parts) where
         let first = said_row ss i k row ∙ ap (row_in ss) (said_boxed l k ends) in
         let second = said_row ss' j m row' ∙ ap (row_in ss') (said_boxed l' m ends') in
         opens n (node.If a b i j span) at ∙ (λ t. core.If (span_of span) (term_of a) (term_of b) (first t) (second t))
-    said_last (Match' x xt p _ ss _ l q _ ss' _ l' span) n (i, j, k, m, at, row, ends, row', ends') =
-        let first = said_row ss i k row ∙ ap (row_in ss) (said_boxed l k ends) in
-        let second = said_row ss' j m row' ∙ ap (row_in ss') (said_boxed l' m ends') in
-        opens n (node.Match x xt p i q j span) at ∙ (λ t. core.Match (span_of span) x (pat_of p) (first t) (pat_of q) (second t))
-    said_last (Branch' _ _ _ _ _ _ _ _ _ _ _ _ _ _ _ _ _ _) n at = absurd at
+    said_last (Match' x xt _ arms span) n (numbered, at, all) = opens n (node.Match x xt numbered span) at ∙ ap (core.Match (span_of span) x) (said_arms arms numbered all)
+    said_last (Branch' _ _ _ _ _ _ _ _ _ _ _ _) n at = absurd at
     said_last (Absurd q span) n at = opens n (node.Absurd q span) at
     said_last (Loop' _ _ _ _ _ _ _ _ _ _ _) n at = absurd at
     said_last (Again _ _ _) n at = absurd at
+
+    said_arms : {k : _} (r : Row_of-SurfaceArm k) (arms : List Arm) → ArmsAt parts.nodes r arms → arms_opened arms (rest parts.nodes) ≡ arms_in r
+    said_arms end_of-SurfaceArm [] at = refl
+    said_arms end_of-SurfaceArm (a ∷ arms) at = absurd at
+    said_arms (more_of-SurfaceArm p _ ss _ l more) [] at = absurd at
+    said_arms (more_of-SurfaceArm p _ ss _ l more) (a ∷ arms) (m, same, row, ends, at) =
+        let body = said_row ss a.next m row ∙ ap (row_in ss) (said_boxed l m ends) in λ t. core.Arm (pat_of (same t)) (body t) (said_arms more arms at t)
 
     said_boxed : {k : _} (x : Row_of-Last k) (n : ℕ) → BoxedAt parts.nodes x n → rest parts.nodes n ≡ boxed_in x
     said_boxed end_of-Last n at = absurd at

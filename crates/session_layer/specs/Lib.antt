@@ -1,4 +1,3 @@
-pub mod Core
 pub mod Lowering
 pub mod Rooted
 pub mod Drafts

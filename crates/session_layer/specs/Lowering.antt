@@ -1,7 +1,8 @@
 -- The core program of a tree whose forms are all of the core language.
-use Rattle.std.specs.Prelude.{◌≡◌, ℕ, List, [], ◌∷◌, Some, slice_get}
-use Rattle.chan_syntax.specs.declared.surface_tree.Stmt.{Stmt, Let, Mul, Div, Rem, Call, Fork, Send1, Recv1, Split, Print, Row_of-Stmt, end_of-Stmt, more_of-Stmt}
-use Rattle.chan_syntax.specs.declared.surface_tree.Last.{Last, Ret, Tail, If', Match', Branch', Absurd, Loop', Again, Row_of-Last, end_of-Last, more_of-Last}
+use Rattle.std.specs.Prelude.{◌≡◌, ℕ, Bool, true, false, List, [], ◌∷◌, Some, slice_get}
+use Rattle.chan_syntax.specs.declared.surface_tree.Stmt.{Stmt, Row_of-Stmt, end_of-Stmt, more_of-Stmt}
+use Rattle.chan_syntax.specs.declared.surface_tree.Last.{Last, Ret, Tail, If', Match', Branch', Absurd, Loop', Again, Row_of-Last, end_of-Last, more_of-Last, Row_of-SurfaceArm, end_of-SurfaceArm, more_of-SurfaceArm}
+use Rattle.chan_syntax.specs.declared.surface_tree.SurfaceArm.{SurfaceArm}
 use Rattle.chan_syntax.specs.declared.surface_tree.Block.{Block}
 use Rattle.chan_syntax.specs.declared.surface_tree.Body.TheVariants as body
 use Rattle.chan_syntax.specs.declared.surface_tree.Decl.{Decl}
@@ -13,26 +14,14 @@ use Rattle.chan_syntax.specs.declared.resources.Equation.{Equation}
 use Rattle.chan_syntax.specs.declared.resources.Proto.{Proto}
 use Rattle.core_programs.specs.declared.nodes.Node.{Node}
 use Rattle.core_programs.specs.declared.nodes.Node.TheVariants as node
+use Rattle.core_programs.specs.declared.nodes.Arm.{Arm}
 use Rattle.core_programs.specs.declared.nodes.Func.{Func}
 use Rattle.core_programs.specs.declared.nodes.Parts.{Parts}
 use Rattle.core_programs.specs.declared.faults.BuildFault.{BuildFault}
 use Rattle.core_programs.specs.declared.faults.BuildFault.TheVariants as fault
+use Rattle.statement_nodes.specs.Nodes.{IsNodeOf}
 use Rattle.core_programs.specs.Form.{IsFault}
 use Rattle.core_programs.specs.Formed.{IsNumbered}
-
--- the node of a statement, where the node of this number follows
-abbrev pub IsNodeOf : Stmt → ℕ → Node → Type 0
-IsNodeOf (Let n at t span) next x = x ≡ node.Let n at t next span
-IsNodeOf (Mul n at a b span) next x = x ≡ node.Mul n at a b next span
-IsNodeOf (Div n at t k kt span) next x = x ≡ node.Div n at t k kt next span
-IsNodeOf (Rem n at t k kt span) next x = x ≡ node.Rem n at t k kt next span
-IsNodeOf (Call p f at vs q span) next x = x ≡ node.Call p f at vs q next span
-IsNodeOf (Fork n at r f ft vs q span) next x = x ≡ node.Fork n at r f ft vs q next span
-IsNodeOf (Send1 c at p pt v q span) next x = x ≡ node.Send1 c at p pt v q next span
-IsNodeOf (Recv1 y c at p pt q span) next x = x ≡ node.Recv1 y c at p pt q next span
-IsNodeOf (Split a b n at span) next x = x ≡ node.Split a b n at next span
-IsNodeOf (Print t span) next x = x ≡ node.Print t next span
-IsNodeOf session next x = ⊥
 
 -- the node at the number
 abbrev pub At : List Node → ℕ → Node → Type 0
@@ -48,6 +37,13 @@ abbrev pub RowAt : {k : _} → List Node → Row_of-Stmt k → ℕ → ℕ → T
 RowAt nodes end_of-Stmt n m = n ≡ m
 RowAt nodes (more_of-Stmt s rest) n m = (x : Node) × (next : ℕ) × At nodes n x × IsNodeOf s next x × RowAt nodes rest next m
 
+-- a last that has no blocks
+abbrev pub is_end : Last → Bool
+is_end (Ret _ _ _) = true
+is_end (Tail _ _ _ _ _) = true
+is_end (Absurd _ _) = true
+is_end other = false
+
 unfoldable mutual
   -- the body at the number is this last
   pub EndsAt : List Node → Last → ℕ → Type 0
@@ -55,12 +51,18 @@ unfoldable mutual
   EndsAt nodes (Tail f at vs q span) n = At nodes n (node.Tail f at vs q span)
   EndsAt nodes (If' a b _ ss _ l _ ss' _ l' span) n =
       (i j k m : ℕ) × At nodes n (node.If a b i j span) × RowAt nodes ss i k × BoxedAt nodes l k × RowAt nodes ss' j m × BoxedAt nodes l' m
-  EndsAt nodes (Match' x at p _ ss _ l q _ ss' _ l' span) n =
-      (i j k m : ℕ) × At nodes n (node.Match x at p i q j span) × RowAt nodes ss i k × BoxedAt nodes l k × RowAt nodes ss' j m × BoxedAt nodes l' m
-  EndsAt nodes (Branch' _ _ _ _ _ _ _ _ _ _ _ _ _ _ _ _ _ _) n = ⊥
+  EndsAt nodes (Match' x at _ arms span) n = (numbered : List Arm) × At nodes n (node.Match x at numbered span) × ArmsAt nodes arms numbered
+  EndsAt nodes (Branch' _ _ _ _ _ _ _ _ _ _ _ _) n = ⊥
   EndsAt nodes (Absurd q span) n = At nodes n (node.Absurd q span)
   EndsAt nodes (Loop' _ _ _ _ _ _ _ _ _ _ _) n = ⊥
   EndsAt nodes (Again _ _ _) n = ⊥
+
+  -- the arms of a match have these numbers
+  pub ArmsAt : {k : _} → List Node → Row_of-SurfaceArm k → List Arm → Type 0
+  ArmsAt nodes end_of-SurfaceArm [] = Unit {0}
+  ArmsAt nodes end_of-SurfaceArm (a ∷ more) = ⊥
+  ArmsAt nodes (more_of-SurfaceArm p _ ss _ l rest) [] = ⊥
+  ArmsAt nodes (more_of-SurfaceArm p _ ss _ l rest) (a ∷ more) = (m : ℕ) × (a.pat ≡ p) × RowAt nodes ss a.next m × BoxedAt nodes l m × ArmsAt nodes rest more
 
   -- what a box holds
   pub BoxedAt : {k : _} → List Node → Row_of-Last k → ℕ → Type 0
@@ -70,6 +72,13 @@ unfoldable mutual
 -- the body at the number has the statements of the block, and then its last
 abbrev pub IsBodyAt : List Node → Block → ℕ → Type 0
 IsBodyAt nodes b n = (m : ℕ) × StmtsAt nodes b.stmts n m × EndsAt nodes b.last m
+
+-- the bodies of the arms have these numbers
+abbrev pub AreArmsAt : List Node → List SurfaceArm → List Arm → Type 0
+AreArmsAt nodes [] [] = Unit {0}
+AreArmsAt nodes [] (a ∷ more) = ⊥
+AreArmsAt nodes (x ∷ xs) [] = ⊥
+AreArmsAt nodes (x ∷ xs) (a ∷ more) = (a.pat ≡ x.pat) × IsBodyAt nodes x.block a.next × AreArmsAt nodes xs more
 
 abbrev pub proto_of : SurfaceProto → Equation → Proto
 proto_of p e = record { name = p.name; name_span = p.name_span; params = p.params; params_spans = p.params_spans; equation = e; span = p.span }

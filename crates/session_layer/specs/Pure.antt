@@ -4,7 +4,7 @@ use Rattle.core_language.specs.Programs as core
 use Rattle.core_language.specs.Resources as resource
 use Rattle.chan_syntax.specs.Reading.{term_of, bound_of, ref_of, res_of, equation_of, supply_of, pat_of, letter_of, proof_of}
 use Rattle.chan_syntax.specs.declared.surface_tree.Stmt.{Stmt, Let, Mul, Div, Rem, Call, Fork, Send1, Recv1, Split, Print, Row_of-Stmt, end_of-Stmt, more_of-Stmt}
-use Rattle.chan_syntax.specs.declared.surface_tree.Last.{Last, Ret, Tail, If', Match', Branch', Absurd, Loop', Again, Row_of-Last, end_of-Last, more_of-Last}
+use Rattle.chan_syntax.specs.declared.surface_tree.Last.{Last, Ret, Tail, If', Match', Branch', Absurd, Loop', Again, Row_of-Last, end_of-Last, more_of-Last, Row_of-SurfaceArm, end_of-SurfaceArm, more_of-SurfaceArm}
 use Rattle.chan_syntax.specs.declared.surface_tree.Block.{Block}
 use Rattle.chan_syntax.specs.declared.surface_tree.Body.{Body}
 use Rattle.chan_syntax.specs.declared.surface_tree.Body.TheVariants as body
@@ -44,8 +44,8 @@ unfoldable mutual
   last_in (Ret v q span) = core.Ret (span_of span) (supply_of v) (proof_of q)
   last_in (Tail f at vs q span) = core.Tail (span_of span) f (map supply_of vs) (proof_of q)
   last_in (If' a b _ ss _ l _ ss' _ l' span) = core.If (span_of span) (term_of a) (term_of b) (row_in ss (boxed_in l)) (row_in ss' (boxed_in l'))
-  last_in (Match' x at p _ ss _ l q _ ss' _ l' span) = core.Match (span_of span) x (pat_of p) (row_in ss (boxed_in l)) (pat_of q) (row_in ss' (boxed_in l'))
-  last_in (Branch' _ _ _ _ _ _ _ _ _ _ _ _ _ _ _ _ _ _) = nowhere
+  last_in (Match' x at _ arms span) = core.Match (span_of span) x (arms_in arms)
+  last_in (Branch' _ _ _ _ _ _ _ _ _ _ _ _) = nowhere
   last_in (Absurd q span) = core.Absurd (span_of span) (proof_of q)
   last_in (Loop' _ _ _ _ _ _ _ _ _ _ _) = nowhere
   last_in (Again _ _ _) = nowhere
@@ -54,6 +54,11 @@ unfoldable mutual
   pub row_in : {k : _} → Row_of-Stmt k → core.Body → core.Body
   row_in end_of-Stmt last = last
   row_in (more_of-Stmt s rest) last = stmt_in s (row_in rest last)
+
+  -- the arms of a match
+  pub arms_in : {k : _} → Row_of-SurfaceArm k → core.Arms
+  arms_in end_of-SurfaceArm = core.NoArm
+  arms_in (more_of-SurfaceArm p _ ss _ l rest) = core.Arm (pat_of p) (row_in ss (boxed_in l)) (arms_in rest)
 
   -- what a box holds
   pub boxed_in : {k : _} → Row_of-Last k → core.Body
@@ -66,7 +71,7 @@ block_in b = stmts_in b.stmts (last_in b.last)
 -- a protocol has a plain equation
 abbrev pub proto_in : SurfaceProto → Body → List resource.Proto
 proto_in p (body.Plain e) = record { name = p.name; params = p.params; equation = equation_of e } ∷ []
-proto_in p (body.Choice _ _ _ _ _) = []
+proto_in p (body.Choice _ _ _ _) = []
 
 abbrev pub func_in : SurfaceFunc → core.Function
 func_in f = record {

@@ -3,8 +3,10 @@ use Rattle.std.specs.Prelude.{◌≡◌, ℕ, ◌<◌, ◌^◌, List, [], ◌∷
 use Rattle.core_programs.specs.declared.nodes.Node.{Node}
 use Rattle.chan_syntax.specs.declared.surface_tree.Last.{Last}
 use Rattle.chan_syntax.specs.declared.surface_tree.Block.{Block}
+use Rattle.chan_syntax.specs.declared.surface_tree.SurfaceArm.{SurfaceArm}
+use Rattle.core_programs.specs.declared.nodes.Arm.{Arm}
 use Rattle.core_programs.specs.Formed.{LeadBelow, Leads}
-use Rattle.session_layer.specs.Lowering.{EndsAt, IsBodyAt}
+use Rattle.session_layer.specs.Lowering.{EndsAt, IsBodyAt, AreArmsAt}
 
 -- the turns lead to the number from the root at an index
 abbrev pub Climbs : List Node → List ℕ → ℕ → List ℕ → ℕ → Type 0
@@ -32,16 +34,20 @@ pub record Adds (before after : List Node) (old : List ℕ) (n : ℕ) : Type 0 w
   pub longer : after ≡ before ++ more
   pub rooted : (front : List ℕ) → IsRooted before (front ++ old) → IsRooted after (front ++ n ∷ [])
 
--- Nodes were added, with two more roots.
-pub record AddsTwo (before after : List Node) (p : ℕ × ℕ) : Type 0 where
+-- Nodes were added, with these roots more.
+pub record AddsAll (before after : List Node) (roots : List ℕ) : Type 0 where
   pub more : List Node
   pub longer : after ≡ before ++ more
-  pub rooted : (front : List ℕ) → IsRooted before front → IsRooted after (front ++ p.0 ∷ p.1 ∷ [])
+  pub rooted : (front : List ℕ) → IsRooted before front → IsRooted after (front ++ roots)
 
--- A node was added that names two roots, and took their place.
-abbrev pub Joins : List Node → List Node → ℕ × ℕ → ℕ → Type 0
-Joins mid after p n = (before : List Node) → AddsTwo before mid p → Adds before after [] n
+-- A node was added that names the roots, and took their place.
+abbrev pub Joins : List Node → List Node → List ℕ → ℕ → Type 0
+Joins mid after roots n = (before : List Node) → AddsAll before mid roots → Adds before after [] n
 
 -- It ends a block: its form has the two blocks whose bodies the roots are.
 abbrev pub JoinsIn : (Block → Block → Last) → List Node → List Node → ℕ × ℕ → ℕ → Type 0
 JoinsIn form mid after p n = (a b : Block) → IsBodyAt mid a p.0 → IsBodyAt mid b p.1 → EndsAt after (form a b) n
+
+-- its form has the blocks whose bodies the arms have
+abbrev pub JoinsArms : (List SurfaceArm → Last) → List Node → List Node → List Arm → ℕ → Type 0
+JoinsArms form mid after arms n = (blocks : List SurfaceArm) → AreArmsAt mid blocks arms → EndsAt after (form blocks) n

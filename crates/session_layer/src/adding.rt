@@ -1,31 +1,28 @@
 //! Nodes that are added one by one. The number of a node is known when it is named, since those that it
 //! names are there before it.
-ghost use Rattle.std.specs.Prelude.{◌≡◌, ◌<◌, ◌^◌, ◌++◌, ◌∷◌, [], length, IfOk};
+ghost use Rattle.std.specs.Prelude.{◌≡◌, List, ◌+◌, ◌<◌, ◌^◌, ◌∷◌, [], length, map, IfOk};
 ghost use Rattle.chan_syntax.specs.declared.surface_tree.Last.TheVariants as last;
 ghost use Rattle.session_layer.specs.Lowering.{EndsAt};
-ghost use Rattle.session_layer.specs.Rooted.{Adds, Joins, JoinsIn};
+ghost use Rattle.session_layer.specs.Rooted.{Adds, Joins, JoinsIn, JoinsArms};
 
-use crate::statements::called;
-use chan_base::Memory;
-use chan_syntax::{Ident, Pat, Proof, Span, Supplies, Supply, Term};
-use core_programs::{Node, Nodes};
+use chan_base::{Memory, Span};
+use chan_syntax::{Ident, Proof, Supplies, Supply, Term};
+use core_programs::{Arms, Node, Nodes};
+use statement_nodes::called;
 use std::alloc::Global;
 
 /// Fewer than 2^32 nodes have numbers.
 const MAX_NODES: usize = 4294967295;
 
-/// Adds a node, and gives its number.
-pub(crate) fn add(nodes: &mut Nodes, node: Node) -> Result<u32, Memory>
-    ensures number { IfOk result (λ n. n ≡ length nodes.old) }
-    ensures added { IfOk result (λ n. nodes.new ≡ nodes.old ++ node ∷ []) }
-    ensures few { IfOk result (λ n. length nodes.new < 2 ^ 32) }
+/// The number of the node that is added next.
+pub(crate) fn free_number(nodes: &Nodes) -> Result<u32, Memory>
+    ensures number { IfOk result (λ n. n ≡ length nodes.now) }
+    ensures few { IfOk result (λ n. n + 1 < 2 ^ 32) }
 {
     if nodes.len() >= MAX_NODES {
         return Err(Memory);
     }
-    let number = nodes.len() as u32;
-    nodes.push(node)?;
-    Ok(number)
+    Ok(nodes.len() as u32)
 }
 
 pub(crate) fn add_ret(
@@ -38,9 +35,10 @@ pub(crate) fn add_ret(
     ensures adds { IfOk result (Adds nodes.old nodes.new []) }
     ensures body { IfOk result (EndsAt nodes.new (last.Ret value.now proof.now span)) }
 {
+    let number = free_number(nodes)?;
     let value = value.copy(alloc)?;
     let proof = proof.copy(alloc)?;
-    let number = add(nodes, Node::Ret { value, proof, span })?;
+    nodes.push(Node::Ret { value, proof, span })?;
     Ok(number)
 }
 
@@ -56,6 +54,7 @@ pub(crate) fn add_tail(
     ensures adds { IfOk result (Adds nodes.old nodes.new []) }
     ensures body { IfOk result (EndsAt nodes.new (last.Tail func.now func_span values.now proof.now span)) }
 {
+    let number = free_number(nodes)?;
     let (func, values, proof) = called(alloc, func, values, proof)?;
     let node = Node::Tail {
         func,
@@ -64,7 +63,7 @@ pub(crate) fn add_tail(
         proof,
         span,
     };
-    let number = add(nodes, node)?;
+    nodes.push(node)?;
     Ok(number)
 }
 
@@ -77,9 +76,10 @@ pub(crate) fn add_if(
     bodies: (u32, u32),
     span: Span,
 ) -> Result<u32, Memory>
-    ensures adds { IfOk result (Joins nodes.old nodes.new bodies) }
+    ensures adds { IfOk result (Joins nodes.old nodes.new (bodies.0 ∷ bodies.1 ∷ [])) }
     ensures body { IfOk result (JoinsIn (λ a b. last.If left.now right.now a b span) nodes.old nodes.new bodies) }
 {
+    let number = free_number(nodes)?;
     let left = left.copy(alloc)?;
     let right = right.copy(alloc)?;
     let node = Node::If {
@@ -89,37 +89,31 @@ pub(crate) fn add_if(
         no: bodies.1,
         span,
     };
-    let number = add(nodes, node)?;
+    nodes.push(node)?;
     Ok(number)
 }
 
-/// Adds the choice of two bodies by a value.
+/// Adds the choice of a body by a value.
 pub(crate) fn add_match(
     alloc: Global,
     nodes: &mut Nodes,
     name: &Ident,
     name_span: Span,
-    left: &Pat,
-    right: &Pat,
-    bodies: (u32, u32),
+    arms: Arms,
     span: Span,
 ) -> Result<u32, Memory>
-    ensures adds { IfOk result (Joins nodes.old nodes.new bodies) }
-    ensures body { IfOk result (JoinsIn (λ a b. last.Match name.now name_span left.now a right.now b span) nodes.old nodes.new bodies) }
+    ensures adds { IfOk result (Joins nodes.old nodes.new (map (λ a. a.next) arms)) }
+    ensures body { IfOk result (JoinsArms (λ blocks. last.Match name.now name_span blocks span) nodes.old nodes.new arms) }
 {
+    let number = free_number(nodes)?;
     let name = name.copy(alloc)?;
-    let left = left.copy(alloc)?;
-    let right = right.copy(alloc)?;
     let node = Node::Match {
         name,
         name_span,
-        left,
-        yes: bodies.0,
-        right,
-        no: bodies.1,
+        arms,
         span,
     };
-    let number = add(nodes, node)?;
+    nodes.push(node)?;
     Ok(number)
 }
 
@@ -132,7 +126,8 @@ pub(crate) fn add_absurd(
     ensures adds { IfOk result (Adds nodes.old nodes.new []) }
     ensures body { IfOk result (EndsAt nodes.new (last.Absurd proof.now span)) }
 {
+    let number = free_number(nodes)?;
     let proof = proof.copy(alloc)?;
-    let number = add(nodes, Node::Absurd { proof, span })?;
+    nodes.push(Node::Absurd { proof, span })?;
     Ok(number)
 }

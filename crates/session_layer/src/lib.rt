@@ -2,12 +2,10 @@
 #![tactic(auto)]
 
 mod adding;
-mod cores;
 mod laws;
 mod lowering;
 mod numbering;
-mod statements;
 
-pub use cores::is_core;
+pub use core_trees::is_core;
 pub use laws::a_tree_has_one_program;
 pub use lowering::lower;

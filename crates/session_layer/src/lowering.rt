@@ -2,7 +2,7 @@
 ghost use Rattle.std.specs.Prelude.{◌≡◌, [], true, IfOk, IfErr, OnOk};
 ghost use Rattle.chan_syntax.specs.declared.surface_tree.Decl.TheVariants as decl;
 ghost use Rattle.core_programs.specs.Form.{HasForm};
-ghost use Rattle.session_layer.specs.Core.{is_core_block, is_core_body, is_core_decl, is_core};
+ghost use Rattle.core_trees.specs.Core.{is_core_block, is_core_body, is_core_decl, is_core};
 ghost use Rattle.session_layer.specs.Lowering.{IsBodyAt, IsLowered, IsFaultOf, proto_of, func_of};
 ghost use Rattle.session_layer.specs.Rooted.{Adds};
 ghost use Rattle.session_layer.specs.Drafts.{Lowers};
@@ -10,8 +10,8 @@ ghost use Rattle.session_layer.specs.Drafts.{Lowers};
 use crate::numbering::number_block;
 use chan_base::Memory;
 use chan_syntax::{
-    Body, Decl, Equation, Proto, Surface, SurfaceFunc, SurfaceProto, copy_names, copy_params,
-    copy_spans,
+    Body, Bound, Decl, Equation, Ident, Params, Proto, Res, Surface, SurfaceFunc, SurfaceProto,
+    copy_names, copy_params, copy_spans,
 };
 use core_programs::{BuildFault, Func, Nodes, Parts, Program};
 use sqlite_items::Items;
@@ -30,6 +30,24 @@ fn plain_proto(alloc: Global, proto: &SurfaceProto, equation: &Equation) -> Resu
     })
 }
 
+/// The name of a function, and the integers that it binds.
+fn named(alloc: Global, func: &SurfaceFunc) -> Result<(Ident, Bound), Memory>
+    ensures { IfOk result (λ p. (p.0 ≡ func.now.name) × (p.1 ≡ func.now.bound)) }
+{
+    let name = func.name.copy(alloc)?;
+    let bound = func.bound.copy(alloc)?;
+    Ok((name, bound))
+}
+
+/// The parameters and the result of a function.
+fn typed(alloc: Global, func: &SurfaceFunc) -> Result<(Params, Res), Memory>
+    ensures { IfOk result (λ p. (p.0 ≡ func.now.params) × (p.1 ≡ func.now.result)) }
+{
+    let params = copy_params(alloc, &func.params)?;
+    let result = func.result.copy(alloc)?;
+    Ok((params, result))
+}
+
 /// Adds the nodes of a function.
 fn number_func(alloc: Global, nodes: &mut Nodes, func: &SurfaceFunc) -> Result<Func, Memory>
     requires core { is_core_block func.now.block ≡ true }
@@ -38,12 +56,14 @@ fn number_func(alloc: Global, nodes: &mut Nodes, func: &SurfaceFunc) -> Result<F
     ensures body { IfOk result (λ f. IsBodyAt nodes.new func.now.block f.first) }
 {
     let first = number_block(alloc, nodes, &func.block)?;
+    let (name, bound) = named(alloc, func)?;
+    let (params, result) = typed(alloc, func)?;
     Ok(Func {
-        name: func.name.copy(alloc)?,
+        name,
         name_span: func.name_span,
-        bound: func.bound.copy(alloc)?,
-        params: copy_params(alloc, &func.params)?,
-        result: func.result.copy(alloc)?,
+        bound,
+        params,
+        result,
         first,
         span: func.span,
     })

@@ -1,15 +1,16 @@
 //! The nodes of blocks, and the numbers by which they follow one another.
-ghost use Rattle.std.specs.Prelude.{◌≡◌, ◌∷◌, [], true, IfOk};
+ghost use Rattle.std.specs.Prelude.{◌≡◌, ◌∷◌, [], true, map, IfOk};
 ghost use Rattle.std.specs.List.{list_all};
-ghost use Rattle.session_layer.specs.Core.{is_core_stmt, is_core_last, is_core_block};
-ghost use Rattle.session_layer.specs.Lowering.{StmtsAt, EndsAt, IsBodyAt};
-ghost use Rattle.session_layer.specs.Rooted.{Adds};
+ghost use Rattle.core_trees.specs.Core.{is_core_stmt, is_core_last, is_core_block, is_core_arm};
+ghost use Rattle.session_layer.specs.Lowering.{is_end, StmtsAt, EndsAt, IsBodyAt, AreArmsAt};
+ghost use Rattle.session_layer.specs.Rooted.{Adds, AddsAll};
 
-use crate::adding::{add, add_absurd, add_if, add_match, add_ret, add_tail};
-use crate::statements::stmt_node;
+use crate::adding::{add_absurd, add_if, add_match, add_ret, add_tail, free_number};
 use chan_base::Memory;
-use chan_syntax::{Block, Last, Stmt};
-use core_programs::Nodes;
+use chan_syntax::{Block, Last, Stmt, SurfaceArm};
+use core_programs::{Arm, Arms, Nodes};
+use sqlite_items::Items;
+use statement_nodes::stmt_node;
 use std::alloc::Global;
 
 /// Adds the nodes of statements before the body at this number.
@@ -22,14 +23,17 @@ fn number_stmts(alloc: Global, nodes: &mut Nodes, stmts: &[Stmt], last: u32) -> 
     let mut left = stmts.len();
     while left > 0 {
         left -= 1;
+        let number = free_number(nodes)?;
         let node = stmt_node(alloc, &stmts[left], next)?;
-        next = add(nodes, node)?;
+        nodes.push(node)?;
+        next = number;
     }
     Ok(next)
 }
 
 /// Adds the node of a Ret, Tail or Absurd.
 fn number_end(alloc: Global, nodes: &mut Nodes, last: &Last) -> Result<u32, Memory>
+    requires { is_end last.now ≡ true }
     ensures adds { IfOk result (Adds nodes.old nodes.new []) }
     ensures body { IfOk result (EndsAt nodes.new last.now) }
 {
@@ -52,13 +56,13 @@ fn number_end(alloc: Global, nodes: &mut Nodes, last: &Last) -> Result<u32, Memo
             let number = add_absurd(alloc, nodes, proof, *span)?;
             Ok(number)
         }
-        _ => Err(Memory),
+        _ => unreachable!(),
     }
 }
 
 /// Adds the nodes of what ends a block.
 #[cycle(numbering)]
-#[tactic(auto, using(crate::proofs::CoreBlocks::core_rules, std::proofs::lemmas::Grind::common_steps))]
+#[tactic(auto, using(core_trees::proofs::CoreBlocks::core_rules, std::proofs::lemmas::Grind::common_steps))]
 fn number_last(alloc: Global, nodes: &mut Nodes, last: &Last) -> Result<u32, Memory>
     requires core { is_core_last last.now ≡ true }
     ensures adds { IfOk result (Adds nodes.old nodes.new []) }
@@ -80,23 +84,36 @@ fn number_last(alloc: Global, nodes: &mut Nodes, last: &Last) -> Result<u32, Mem
         Last::Match {
             name,
             name_span,
-            left,
-            yes,
-            right,
-            no,
+            arms,
             span,
         } => {
-            let yes = number_block(alloc, nodes, yes)?;
-            let no = number_block(alloc, nodes, no)?;
-            let bodies = (yes, no);
-            let number = add_match(alloc, nodes, name, *name_span, left, right, bodies, *span)?;
+            let arms = number_arms(alloc, nodes, arms.as_slice())?;
+            let number = add_match(alloc, nodes, name, *name_span, arms, *span)?;
             Ok(number)
         }
+        Last::Ret { .. } => number_end(alloc, nodes, last),
+        Last::Tail { .. } => number_end(alloc, nodes, last),
+        Last::Absurd { .. } => number_end(alloc, nodes, last),
         Last::Branch { .. } => unreachable!(),
         Last::Loop { .. } => unreachable!(),
         Last::Again { .. } => unreachable!(),
-        _ => number_end(alloc, nodes, last),
     }
+}
+
+/// Adds the nodes of the arms of a match.
+#[cycle(numbering)]
+fn number_arms(alloc: Global, nodes: &mut Nodes, arms: &[SurfaceArm]) -> Result<Arms, Memory>
+    requires core { list_all is_core_arm arms.now ≡ true }
+    ensures adds { IfOk result (λ numbered. AddsAll nodes.old nodes.new (map (λ a. a.next) numbered)) }
+    ensures body { IfOk result (AreArmsAt nodes.new arms.now) }
+{
+    let mut numbered = Items::new(alloc);
+    for arm in arms {
+        let pat = arm.pat.copy(alloc)?;
+        let next = number_block(alloc, nodes, &arm.block)?;
+        numbered.push(Arm { pat, next })?;
+    }
+    Ok(numbered)
 }
 
 /// Adds the nodes of a block, and gives the number of its first one.

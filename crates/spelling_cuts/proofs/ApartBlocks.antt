@@ -1,5 +1,5 @@
 -- The words of statements and blocks stand apart.
-use Rattle.std.proofs.Common.{ℕ, ◌+◌, if◌then◌else◌, List, [], ◌∷◌, ◌++◌, codes, refl}
+use Rattle.std.proofs.Common.{ℕ, suc, ◌+◌, List, [], ◌∷◌, ◌++◌, codes, refl}
 use Rattle.chan_syntax.specs.declared.linear.Term.{Term}
 use Rattle.chan_syntax.specs.declared.linear.Bound.{Bound}
 use Rattle.chan_syntax.specs.declared.resources.Ref.{Ref}
@@ -11,14 +11,14 @@ use Rattle.chan_syntax.specs.declared.operands.Letter.{Letter}
 use Rattle.chan_syntax.specs.declared.operands.Proof.{Proof}
 use Rattle.chan_syntax.specs.declared.surface_tree.Start.{Start}
 use Rattle.chan_syntax.specs.declared.surface_tree.Stmt.{Stmt, Let, Mul, Div, Rem, Call, Fork, ForkDo', Send1, Recv1, Send, Recv, Close, Wait, Choose, Split, Print, Row_of-Stmt, end_of-Stmt, more_of-Stmt}
-use Rattle.chan_syntax.specs.declared.surface_tree.Last.{Last, Ret, Tail, If', Match', Branch', Absurd, Loop', Again, Row_of-Last, end_of-Last, more_of-Last}
+use Rattle.chan_syntax.specs.declared.surface_tree.Last.{Last, Ret, Tail, If', Match', Branch', Absurd, Loop', Again, Row_of-Last, end_of-Last, more_of-Last, Row_of-SurfaceArm, end_of-SurfaceArm, more_of-SurfaceArm, Row_of-Block, end_of-Block, more_of-Block}
 use Rattle.chan_syntax.specs.declared.surface_tree.Block.{Block}
 use Rattle.text_tokens.specs.Text.{Piece}
 use Rattle.surface_spelling.specs.Layout.{keyword, name, number, space, step, line, pair, closing, in_braces}
-use Rattle.surface_spelling.specs.Operands.{term, reference, names_behind, pat, two_pats, proof}
-use Rattle.surface_spelling.specs.Blocks.{let_is, call, access, target, start, name_and_binds, result_behind, task_head, header, loop_head, let_fork, sent, at_most, condition, match_head, arm_head, as_names, branch_head, stmt, last, row_of_stmts, boxed_last, stmts, block}
-use Rattle.spelling_cuts.proofs.Apart.{Next, a_word, a_mark, Apart, Soft, apart_rules, apart_append, apart_open, soft_front, soft_gap, line_apart, line_soft}
-use Rattle.spelling_cuts.proofs.ApartOperands.{operand_rules, res_apart}
+use Rattle.surface_spelling.specs.Operands.{term, reference, names_behind, tag, pat, two_pats, proof}
+use Rattle.surface_spelling.specs.Blocks.{let_is, call, access, target, start, name_and_binds, result_behind, task_head, header, loop_head, let_fork, sent, at_most, condition, match_head, arm_head, chosen, as_names, branch_head, stmt, last, row_of_stmts, row_of_arms, row_of_blocks, row_behind_else, boxed_last, stmts, block}
+use Rattle.spelling_cuts.proofs.Apart.{Next, a_word, a_mark, Apart, Soft, apart_rules, layout_rules, apart_append, apart_open, soft_front, soft_gap, line_apart, line_soft}
+use Rattle.spelling_cuts.proofs.ApartOperands.{operand_rules, res_apart, tag_apart}
 
 -- ---- what several statements have
 
@@ -89,15 +89,20 @@ match_apart : (k : Next) (n : List ℕ) → Apart k (match_head n)
 unfolding match_head
 match_apart k n = record { is = refl }
 
-arm_soft : (k : Next) (d : ℕ) (side : List ℕ) (p : Pat) → Soft k (arm_head d side p)
+arm_soft : (k : Next) (d i : ℕ) (p : Pat) → Soft k (arm_head d i p)
 unfolding arm_head line
-arm_soft k d side p = record { is = refl }
+arm_soft k d i p = record { is = refl }
 
-arm_apart : (k : Next) (d : ℕ) (side : List ℕ) (p : Pat) → Apart k (arm_head d side p)
+arm_apart : (k : Next) (d i : ℕ) (p : Pat) → Apart k (arm_head d i p)
 unfolding arm_head
-arm_apart k d side p =
-    apart_append k (line d ++ keyword side ∷ space ∷ pat p) (space ∷ [])
-    (apart_open a_mark (line d) (keyword side ∷ space ∷ pat p) (line_apart a_word d) (search operand_rules depth 12)) (soft_gap k []) (record { is = refl })
+arm_apart k d i p =
+    apart_append k (line d ++ tag i ++ space ∷ pat p) (space ∷ [])
+    (apart_append a_mark (line d ++ tag i) (space ∷ pat p) (apart_open a_mark (line d) (tag i) (line_apart a_word d) (tag_apart i)) (soft_gap a_mark (pat p)) (search operand_rules depth 12))
+    (soft_gap k []) (record { is = refl })
+
+chosen_apart : (i : ℕ) → Apart a_mark (chosen i)
+unfolding chosen
+chosen_apart i = search layout_rules depth 12
 
 as_soft : (k : Next) (b z : List ℕ) → Soft k (as_names b z)
 unfolding as_names
@@ -138,6 +143,9 @@ line_first d ps = soft_front a_mark (line d) ps (line_soft a_word d)
 inner_apart : (d : ℕ) (k : Next) (rows lasts : List Piece) → Apart a_mark rows → Soft a_mark lasts → Apart a_mark lasts → Apart k (in_braces d (rows ++ lasts))
 inner_apart d k rows lasts r s l = braces_apart k d (rows ++ lasts) (apart_append a_mark rows lasts r s l)
 
+else_then : (b : List Piece) → Apart a_mark b → Apart a_mark (space ∷ keyword (codes "else") ∷ space ∷ b)
+else_then b p = search apart_rules depth 12
+
 two_apart : (k : Next) (a b : List Piece) → Apart a_mark a → Apart k b → Apart k (a ++ space ∷ keyword (codes "else") ∷ space ∷ b)
 two_apart k a b p q = search apart_rules depth 12
 
@@ -167,13 +175,27 @@ with_blocks head d first second h p q =
     two_apart a_mark (head ++ in_braces d first) (in_braces d second)
     (apart_append a_mark head (in_braces d first) h (braces_soft a_mark d first) p) q
 
--- two arms
-with_arms : (n : List ℕ) (d : ℕ) (p q : Pat) (first second : List Piece) → Apart a_mark (in_braces (d + step) first) → Apart a_mark (in_braces (d + step) second)
-    → Apart a_mark (match_head n ++ arm_head (d + step) (codes "inl") p ++ in_braces (d + step) first ++ arm_head (d + step) (codes "inr") q ++ in_braces (d + step) second ++ closing d)
-with_arms n d p q first second a b = search (apart_rules, match_apart, arm_soft, arm_apart, braces_soft, closing_soft, closing_apart) depth 14 fits 4000
+-- what stands behind the first block
+else_soft : {m : _} (d : ℕ) (r : Row_of-Block m) → Soft a_mark (row_behind_else d r)
+unfolding row_behind_else
+else_soft d end_of-Block = record { is = refl }
+else_soft d (more_of-Block _ ss _ l rest) = record { is = refl }
+
+blocks_soft : {m : _} (d : ℕ) (r : Row_of-Block m) → Soft a_mark (row_of_blocks d r)
+unfolding row_of_blocks
+blocks_soft d end_of-Block = record { is = refl }
+blocks_soft d (more_of-Block _ ss _ l rest) =
+    soft_front a_mark (in_braces d (row_of_stmts (d + step) ss ++ boxed_last (d + step) l)) (row_behind_else d rest) (braces_soft a_word d (row_of_stmts (d + step) ss ++ boxed_last (d + step) l))
+
+arms_soft : {m : _} (d i : ℕ) (r : Row_of-SurfaceArm m) → Soft a_mark (row_of_arms d i r)
+unfolding row_of_arms
+arms_soft d i end_of-SurfaceArm = record { is = refl }
+arms_soft d i (more_of-SurfaceArm p _ ss _ l rest) =
+    let inner = in_braces d (row_of_stmts (d + step) ss ++ boxed_last (d + step) l) in
+    soft_front a_mark (arm_head d i p ++ inner) (row_of_arms d (suc i) rest) (soft_front a_word (arm_head d i p) inner (arm_soft a_word d i p))
 
 mutual
-  unfolding stmt last row_of_stmts boxed_last
+  unfolding stmt last row_of_stmts row_of_arms row_of_blocks row_behind_else boxed_last
 
   pub stmt_apart : (d : ℕ) (s : Stmt) → Apart a_mark (stmt d s)
   stmt_apart d (Let n x t y) = let_then (name n ∷ []) (term t) (one_name n) (search operand_rules)
@@ -196,9 +218,9 @@ mutual
       let_then (two_pats a b ++ names_behind ns) (keyword (codes "recv") ∷ space ∷ access c p q) (search operand_rules depth 12) (search block_rules depth 12)
   stmt_apart d (Close c x p y q z) = search block_rules depth 12
   stmt_apart d (Wait c x p y q z) = search block_rules depth 12
-  stmt_apart d (Choose right n x c y r p z q w) =
-      apart_append a_mark (let_is (name n ∷ []) ++ (if right then keyword (codes "right") else keyword (codes "left")) ∷ space ∷ target c r p) (proof q)
-      (let_then (name n ∷ []) ((if right then keyword (codes "right") else keyword (codes "left")) ∷ space ∷ target c r p) (one_name n) (search block_rules depth 12))
+  stmt_apart d (Choose i n x c y r p z q w) =
+      apart_append a_mark (let_is (name n ∷ []) ++ chosen i ++ space ∷ target c r p) (proof q)
+      (apart_append a_mark (let_is (name n ∷ []) ++ chosen i) (space ∷ target c r p) (let_then (name n ∷ []) (chosen i) (one_name n) (chosen_apart i)) (soft_gap a_mark (target c r p)) (search block_rules depth 12))
       (search operand_rules) (search operand_rules)
   stmt_apart d (Split a b n x y) = let_then (two_pats a b) (name n ∷ []) (search operand_rules) (one_name n)
   stmt_apart d (Print t x) = search operand_rules depth 12
@@ -210,14 +232,12 @@ mutual
       with_blocks (condition a b) d (row_of_stmts (d + step) ss ++ boxed_last (d + step) l) (row_of_stmts (d + step) ss' ++ boxed_last (d + step) l') (condition_apart a_mark a b)
       (inner_apart d a_mark (row_of_stmts (d + step) ss) (boxed_last (d + step) l) (row_apart (d + step) ss) (boxed_last_soft (d + step) l) (boxed_last_apart (d + step) l))
       (inner_apart d a_mark (row_of_stmts (d + step) ss') (boxed_last (d + step) l') (row_apart (d + step) ss') (boxed_last_soft (d + step) l') (boxed_last_apart (d + step) l'))
-  last_apart d (Match' n x p i ss j l q i' ss' j' l' y) =
-      with_arms n d p q (row_of_stmts (d + step + step) ss ++ boxed_last (d + step + step) l) (row_of_stmts (d + step + step) ss' ++ boxed_last (d + step + step) l')
-      (inner_apart (d + step) a_mark (row_of_stmts (d + step + step) ss) (boxed_last (d + step + step) l) (row_apart (d + step + step) ss) (boxed_last_soft (d + step + step) l) (boxed_last_apart (d + step + step) l))
-      (inner_apart (d + step) a_mark (row_of_stmts (d + step + step) ss') (boxed_last (d + step + step) l') (row_apart (d + step + step) ss') (boxed_last_soft (d + step + step) l') (boxed_last_apart (d + step + step) l'))
-  last_apart d (Branch' c x p y q b z r w i ss j l i' ss' j' l' u) =
-      with_blocks (branch_head c p q b r) d (row_of_stmts (d + step) ss ++ boxed_last (d + step) l) (row_of_stmts (d + step) ss' ++ boxed_last (d + step) l') (branch_apart a_mark c p q b r)
-      (inner_apart d a_mark (row_of_stmts (d + step) ss) (boxed_last (d + step) l) (row_apart (d + step) ss) (boxed_last_soft (d + step) l) (boxed_last_apart (d + step) l))
-      (inner_apart d a_mark (row_of_stmts (d + step) ss') (boxed_last (d + step) l') (row_apart (d + step) ss') (boxed_last_soft (d + step) l') (boxed_last_apart (d + step) l'))
+  last_apart d (Match' n x m arms y) =
+      apart_append a_mark (match_head n ++ row_of_arms (d + step) 0 arms) (closing d)
+      (apart_append a_mark (match_head n) (row_of_arms (d + step) 0 arms) (match_apart a_mark n) (arms_soft (d + step) 0 arms) (arms_apart (d + step) 0 arms))
+      (closing_soft a_mark d) (closing_apart a_mark d)
+  last_apart d (Branch' c x p y q b z r w m blocks u) =
+      apart_append a_mark (branch_head c p q b r) (row_of_blocks d blocks) (branch_apart a_mark c p q b r) (blocks_soft d blocks) (blocks_apart d blocks)
   last_apart d (Absurd q x) = search operand_rules depth 12
   last_apart d (Loop' n x b xs r q i ss j l y) =
       with_block (keyword (codes "loop") ∷ space ∷ loop_head n b xs r q) d (row_of_stmts (d + step) ss) (boxed_last (d + step) l)
@@ -229,6 +249,27 @@ mutual
   row_apart d end_of-Stmt = record { is = refl }
   row_apart d (more_of-Stmt x rest) =
       let first = on_line d (stmt d x) (stmt_apart d x) in let more = row_apart d rest in search (apart_rules) depth 12
+
+  arms_apart : {m : _} (d i : ℕ) (r : Row_of-SurfaceArm m) → Apart a_mark (row_of_arms d i r)
+  arms_apart d i end_of-SurfaceArm = record { is = refl }
+  arms_apart d i (more_of-SurfaceArm p _ ss _ l rest) =
+      apart_append a_mark (arm_head d i p ++ in_braces d (row_of_stmts (d + step) ss ++ boxed_last (d + step) l)) (row_of_arms d (suc i) rest)
+      (with_block (arm_head d i p) d (row_of_stmts (d + step) ss) (boxed_last (d + step) l) (arm_apart a_mark d i p) (row_apart (d + step) ss) (boxed_last_soft (d + step) l) (boxed_last_apart (d + step) l))
+      (arms_soft d (suc i) rest) (arms_apart d (suc i) rest)
+
+  blocks_apart : {m : _} (d : ℕ) (r : Row_of-Block m) → Apart a_mark (row_of_blocks d r)
+  blocks_apart d end_of-Block = record { is = refl }
+  blocks_apart d (more_of-Block _ ss _ l rest) =
+      apart_append a_mark (in_braces d (row_of_stmts (d + step) ss ++ boxed_last (d + step) l)) (row_behind_else d rest)
+      (inner_apart d a_mark (row_of_stmts (d + step) ss) (boxed_last (d + step) l) (row_apart (d + step) ss) (boxed_last_soft (d + step) l) (boxed_last_apart (d + step) l))
+      (else_soft d rest) (else_apart d rest)
+
+  else_apart : {m : _} (d : ℕ) (r : Row_of-Block m) → Apart a_mark (row_behind_else d r)
+  else_apart d end_of-Block = record { is = refl }
+  else_apart d (more_of-Block _ ss _ l rest) =
+      apart_append a_mark (space ∷ keyword (codes "else") ∷ space ∷ in_braces d (row_of_stmts (d + step) ss ++ boxed_last (d + step) l)) (row_behind_else d rest)
+      (else_then (in_braces d (row_of_stmts (d + step) ss ++ boxed_last (d + step) l)) (inner_apart d a_mark (row_of_stmts (d + step) ss) (boxed_last (d + step) l) (row_apart (d + step) ss) (boxed_last_soft (d + step) l) (boxed_last_apart (d + step) l)))
+      (else_soft d rest) (else_apart d rest)
 
   boxed_last_apart : {m : _} (d : ℕ) (r : Row_of-Last m) → Apart a_mark (boxed_last d r)
   boxed_last_apart d end_of-Last = record { is = refl }

@@ -1,5 +1,5 @@
 -- The words of terms, resources, values and proofs stand apart.
-use Rattle.std.proofs.Common.{ℕ, true, false, ℤ, pos, negsuc, Bool, if◌then◌else◌, List, [], ◌∷◌, codes, Option, Some, None, refl}
+use Rattle.std.proofs.Common.{ℕ, true, false, Bool, if◌then◌else◌, List, [], ◌∷◌, ◌++◌, codes, Option, Some, None, refl, unsigned_abs}
 use Rattle.chan_syntax.specs.declared.linear.Part.{Part}
 use Rattle.chan_syntax.specs.declared.linear.Term.{Term}
 use Rattle.chan_syntax.specs.declared.linear.Relation.{Relation}
@@ -9,7 +9,7 @@ use Rattle.chan_syntax.specs.declared.resources.Ref.{Ref}
 use Rattle.chan_syntax.specs.declared.resources.Shape.{Shape, Unit, Int, End, Pair', Sum', Row_of-Res, end_of-Res, more_of-Res}
 use Rattle.chan_syntax.specs.declared.resources.Res.{Res}
 use Rattle.chan_syntax.specs.declared.resources.Param.{Param}
-use Rattle.chan_syntax.specs.declared.operands.Supply.{Supply, Unit as SupplyUnit, Pair' as SupplyPair', Left', Right', Sum as SupplySum, Row_of-Supply, end_of-Supply, more_of-Supply}
+use Rattle.chan_syntax.specs.declared.operands.Supply.{Supply, Unit as SupplyUnit, Pair' as SupplyPair', Arm', Sum as SupplySum, Row_of-Supply, end_of-Supply, more_of-Supply}
 use Rattle.chan_syntax.specs.declared.operands.Pat.{Pat}
 use Rattle.chan_syntax.specs.declared.operands.Letter.{Letter}
 use Rattle.chan_syntax.specs.declared.operands.WrittenMention.{WrittenMention}
@@ -17,24 +17,26 @@ use Rattle.chan_syntax.specs.declared.operands.WrittenCert.{WrittenCert}
 use Rattle.chan_syntax.specs.declared.operands.Proof.{Proof}
 use Rattle.text_tokens.specs.Text.{Piece}
 use Rattle.surface_spelling.specs.Layout.{mark, name, number, space, listed, in_parens, in_brackets}
-use Rattle.surface_spelling.specs.Operands.{a_name, integer, product, first_part, next_part, more_parts, sum, term, relation_mark, limit, limits, binds, binds_before, binds_behind, reference, shape, boxed_res, res, param, value, boxed_value, values, names_behind, pat, two_pats, path, mention, mentions_behind, cert, instances, certificates, proof}
-use Rattle.spelling_cuts.proofs.Apart.{Next, a_word, a_mark, Apart, Soft, apart_rules, layout_rules, apart_open, apart_less, apart_mark, apart_gap, apart_append, soft_front}
+use Rattle.surface_spelling.specs.Operands.{a_name, product, has_minus, first_part, next_part, more_parts, sum, term, relation_mark, limit, limits, binds, binds_before, binds_behind, reference, shape, boxed_res, row_of_res, res_behind, res, param, tag, value, boxed_value, values, names_behind, pat, two_pats, path, mention, mentions_behind, cert, instances, certificates, proof}
+use Rattle.spelling_cuts.proofs.Apart.{Next, a_word, a_mark, Apart, Soft, apart_rules, layout_rules, apart_nil, apart_open, apart_less, apart_mark, apart_gap, apart_append, soft_gap, soft_front}
 
 -- ---- terms
 
-integer_apart : (z : ℤ) → Apart a_mark (integer z)
-unfolding integer
-integer_apart (pos n) = search apart_rules depth 12
-integer_apart (negsuc n) = search apart_rules depth 12
-
-product_apart : (z : ℤ) (n : Option (List ℕ)) → Apart a_mark (product z n)
+product_apart : (factor : ℕ) (n : Option (List ℕ)) → Apart a_mark (product factor n)
 unfolding product
-product_apart z None = integer_apart z
-product_apart z (Some n) = search (layout_rules, integer_apart) depth 12
+product_apart factor None = search apart_rules depth 12
+product_apart factor (Some n) = search layout_rules depth 12
+
+-- a sign that may stand before a word
+sign_apart : (b : Bool) (c : Piece) → Apart a_word (c ∷ []) → Apart a_word (if b then c ∷ [] else [])
+sign_apart true c a = a
+sign_apart false c a = apart_nil a_word
 
 first_apart : (p : Part) → Apart a_mark (first_part p)
 unfolding first_part
-first_apart p = search (layout_rules, product_apart) depth 12
+first_apart p =
+    apart_open a_mark (if has_minus p then mark (codes "-") ∷ [] else []) (product (unsigned_abs p.factor) p.name)
+    (sign_apart (has_minus p) (mark (codes "-")) (record { is = refl })) (product_apart (unsigned_abs p.factor) p.name)
 
 next_apart : (p : Part) → Apart a_mark (next_part p)
 unfolding next_part
@@ -97,44 +99,61 @@ binds_soft k ns ls = record { is = refl }
 
 before_apart : (k : Next) (ns : List (List ℕ)) (ls : List Limit) → Apart k (binds_before ns ls)
 unfolding binds_before
-before_apart k [] ls = record { is = refl }
+before_apart k [] [] = record { is = refl }
+before_apart k [] (l ∷ ls) = search (apart_rules, binds_apart) depth 12
 before_apart k (n ∷ ns) ls = search (apart_rules, binds_apart) depth 12
 
 pub behind_soft : (ns : List (List ℕ)) (ls : List Limit) → Soft a_mark (binds_behind ns ls)
 unfolding binds_behind
-behind_soft [] ls = record { is = refl }
+behind_soft [] [] = record { is = refl }
+behind_soft [] (l ∷ ls) = record { is = refl }
 behind_soft (n ∷ ns) ls = record { is = refl }
 
 pub behind_apart : (ns : List (List ℕ)) (ls : List Limit) → Apart a_mark (binds_behind ns ls)
 unfolding binds_behind
-behind_apart [] ls = record { is = refl }
+behind_apart [] [] = record { is = refl }
+behind_apart [] (l ∷ ls) = search (apart_rules, binds_apart) depth 12
 behind_apart (n ∷ ns) ls = search (apart_rules, binds_apart) depth 12
 
 -- ---- resources
 
-dual_apart : (b : Bool) → Apart a_word (if b then mark (codes "~") ∷ [] else [])
-dual_apart true = record { is = refl }
-dual_apart false = record { is = refl }
-
 pub reference_apart : (r : Ref) → Apart a_mark (reference r)
 unfolding reference
 reference_apart r =
-    apart_open a_mark (if r.dual then mark (codes "~") ∷ [] else []) (name r.name ∷ in_parens (listed term r.args)) (dual_apart r.dual)
+    apart_open a_mark (if r.dual then mark (codes "~") ∷ [] else []) (name r.name ∷ in_parens (listed term r.args)) (sign_apart r.dual (mark (codes "~")) (record { is = refl }))
     (search (layout_rules, term_apart) depth 12)
 
+behind_row_soft : {m : _} (r : Row_of-Res m) → Soft a_mark (res_behind r)
+unfolding res_behind
+behind_row_soft end_of-Res = record { is = refl }
+behind_row_soft (more_of-Res b s rest) = record { is = refl }
+
 mutual
-  unfolding shape boxed_res
+  unfolding shape boxed_res row_of_res res_behind
 
   pub shape_apart : (s : Shape) → Apart a_mark (shape s)
   shape_apart Unit = record { is = refl }
   shape_apart (Int t) = search (layout_rules, term_apart) depth 12
   shape_apart (End r) = search (layout_rules, reference_apart) depth 12
   shape_apart (Pair' m a n b) = let first = boxed_res_apart a in let second = boxed_res_apart b in search layout_rules depth 12
-  shape_apart (Sum' m a n b) = let first = boxed_res_apart a in let second = boxed_res_apart b in search layout_rules depth 12
+  shape_apart (Sum' m arms) = let inner = row_apart arms in search layout_rules depth 12
 
   boxed_res_apart : {m : _} (r : Row_of-Res m) → Apart a_mark (boxed_res r)
   boxed_res_apart end_of-Res = record { is = refl }
   boxed_res_apart (more_of-Res b s rest) = apart_open a_mark (binds_before b.names b.limits) (shape s) (before_apart a_word b.names b.limits) (shape_apart s)
+
+  row_apart : {m : _} (r : Row_of-Res m) → Apart a_mark (row_of_res r)
+  row_apart end_of-Res = record { is = refl }
+  row_apart (more_of-Res b s rest) =
+      apart_append a_mark (binds_before b.names b.limits ++ shape s) (res_behind rest)
+      (apart_open a_mark (binds_before b.names b.limits) (shape s) (before_apart a_word b.names b.limits) (shape_apart s)) (behind_row_soft rest) (behind_row_apart rest)
+
+  behind_row_apart : {m : _} (r : Row_of-Res m) → Apart a_mark (res_behind r)
+  behind_row_apart end_of-Res = record { is = refl }
+  behind_row_apart (more_of-Res b s rest) =
+      let first = apart_append a_mark (binds_before b.names b.limits ++ shape s) (res_behind rest)
+      (apart_open a_mark (binds_before b.names b.limits) (shape s) (before_apart a_word b.names b.limits) (shape_apart s)) (behind_row_soft rest) (behind_row_apart rest) in
+      record { is = first.is }
 
 pub res_apart : (r : Res) → Apart a_mark (res r)
 unfolding res
@@ -146,14 +165,17 @@ param_apart p = search (layout_rules, shape_apart) depth 12
 
 -- ---- operands
 
+pub tag_apart : (i : ℕ) → Apart a_mark (tag i)
+unfolding tag
+tag_apart i = search layout_rules depth 12
+
 mutual
   unfolding value boxed_value
 
   pub value_apart : (v : Supply) → Apart a_mark (value v)
   value_apart SupplyUnit = search layout_rules depth 12
   value_apart (SupplyPair' m a n b) = let first = boxed_value_apart a in let second = boxed_value_apart b in search layout_rules depth 12
-  value_apart (Left' m a) = let inner = boxed_value_apart a in search layout_rules depth 12
-  value_apart (Right' m a) = let inner = boxed_value_apart a in search layout_rules depth 12
+  value_apart (Arm' i m a) = apart_append a_mark (tag i) (space ∷ boxed_value a) (tag_apart i) (soft_gap a_mark (boxed_value a)) (apart_gap a_mark (boxed_value a) (boxed_value_apart a))
   value_apart (SupplySum t) = term_apart t
 
   boxed_value_apart : {m : _} (r : Row_of-Supply m) → Apart a_mark (boxed_value r)
@@ -201,12 +223,8 @@ path_apart (l ∷ ls) = record { is = refl }
 mention_apart : (m : WrittenMention) → Apart a_mark (mention m)
 unfolding mention
 mention_apart m =
-    apart_open a_mark (if m.negative then mark (codes "-") ∷ [] else []) (number m.factor ∷ space ∷ mark (codes "#") ∷ number m.index ∷ []) (minus m.negative)
+    apart_open a_mark (if m.negative then mark (codes "-") ∷ [] else []) (number m.factor ∷ space ∷ mark (codes "#") ∷ number m.index ∷ []) (sign_apart m.negative (mark (codes "-")) (record { is = refl }))
     (search apart_rules depth 12)
-  where
-    minus : (b : Bool) → Apart a_word (if b then mark (codes "-") ∷ [] else [])
-    minus true = record { is = refl }
-    minus false = record { is = refl }
 
 mentions_soft : (ms : List WrittenMention) → Soft a_mark (mentions_behind ms)
 unfolding mentions_behind

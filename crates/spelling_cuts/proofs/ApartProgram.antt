@@ -11,9 +11,10 @@ use Rattle.chan_syntax.specs.declared.surface_tree.Body.TheVariants as body
 use Rattle.chan_syntax.specs.declared.surface_tree.Decl.{Decl}
 use Rattle.chan_syntax.specs.declared.surface_tree.Decl.TheVariants as decl
 use Rattle.chan_syntax.specs.declared.surface_tree.Surface.{Surface}
-use Rattle.surface_spelling.specs.Layout.{mark, line}
+use Rattle.surface_spelling.specs.Layout.{mark, space, line}
+use Rattle.surface_spelling.specs.Operands.{reference}
 use Rattle.surface_spelling.specs.Blocks.{condition}
-use Rattle.surface_spelling.specs.Spelling.{then_ref, two_refs, alternatives, plain, pbody, proto_head, proto, func_head, func, declaration, declarations, program}
+use Rattle.surface_spelling.specs.Spelling.{then_ref, two_refs, refs_behind, alternatives, plain, pbody, proto_head, proto, func_head, func, declaration, declarations, program}
 use Rattle.spelling_cuts.proofs.Apart.{Next, a_word, a_mark, Apart, Soft, apart_append, apart_open}
 use Rattle.spelling_cuts.proofs.ApartBlocks.{statement_rules, condition_apart}
 
@@ -31,9 +32,20 @@ refs_apart : (a b : Ref) → Apart a_mark (two_refs a b)
 unfolding two_refs
 refs_apart a b = search statement_rules depth 12
 
-alternatives_apart : (a b : Ref) → Apart a_mark (alternatives a b)
+behind_refs_soft : (rs : List Ref) → Soft a_mark (refs_behind rs)
+unfolding refs_behind
+behind_refs_soft [] = record { is = refl }
+behind_refs_soft (r ∷ rs) = record { is = refl }
+
+behind_refs_apart : (rs : List Ref) → Apart a_mark (refs_behind rs)
+unfolding refs_behind
+behind_refs_apart [] = record { is = refl }
+behind_refs_apart (r ∷ rs) = apart_append a_mark (space ∷ mark (codes "|") ∷ space ∷ reference r) (refs_behind rs) (search statement_rules depth 12) (behind_refs_soft rs) (behind_refs_apart rs)
+
+alternatives_apart : (rs : List Ref) → Apart a_mark (alternatives rs)
 unfolding alternatives
-alternatives_apart a b = search statement_rules depth 12
+alternatives_apart [] = record { is = refl }
+alternatives_apart (r ∷ rs) = apart_append a_mark (reference r) (refs_behind rs) (search statement_rules depth 12) (behind_refs_soft rs) (behind_refs_apart rs)
 
 plain_apart : (x : Equation) → Apart a_mark (plain x)
 unfolding plain
@@ -46,7 +58,7 @@ plain_apart (equation.Branch a b this other) = apart_open a_mark (condition a b)
 body_apart : (x : Body) → Apart a_mark (pbody x)
 unfolding pbody
 body_apart (body.Plain x) = plain_apart x
-body_apart (body.Choice offer n at a b) = search (statement_rules, alternatives_apart) depth 14
+body_apart (body.Choice offer n at refs) = search (statement_rules, alternatives_apart) depth 14
 
 head_apart : (k : Next) (n : List ℕ) (params : List (List ℕ)) → Apart k (proto_head n params)
 unfolding proto_head

@@ -1,5 +1,5 @@
 -- Trees that their canonical words derive again, places aside: how this passes from the parts of a grammar to the whole.
-use Rattle.std.proofs.Common.{◌≡◌, ℕ, zero, suc, ◌<◌, inl, inr, Bool, true, List, [], ◌∷◌, ◌++◌, map, refl, sym, ◌∙◌, ap, ap₂, subst, append-nil, append_assoc, codes, arith}
+use Rattle.std.proofs.Common.{◌≡◌, ℕ, zero, suc, ◌<◌, ◌⊎◌, inl, inr, Bool, true, List, [], ◌∷◌, ◌++◌, map, refl, sym, ◌∙◌, ap, ap₂, subst, append-nil, append_assoc, codes, arith}
 use Rattle.text_tokens.specs.Word.{IsToken}
 use Rattle.text_tokens.specs.Text.{Piece, separator, comment, token, Token}
 use Rattle.grammar_laws.specs.Grammar as g
@@ -11,7 +11,7 @@ use Rattle.surface_spelling.specs.Erased as e
 use Rattle.surface_grammar.specs.declared.words.Word.{Word}
 use Rattle.surface_grammar.specs.declared.words.Word.TheVariants as w
 use Rattle.surface_grammar.specs.Words.{spelling, code_of, code}
-use Rattle.surface_grammar.specs.Grammar.{G, Rule, AValue, ARes, ABlock, TreeOf, word, ◌▷◌, ◌◁◌, ◌⇒◌, repeated, listed, closed}
+use Rattle.surface_grammar.specs.Grammar.{G, Rule, AValue, ARes, ABlock, TreeOf, word, ◌▷◌, ◌◁◌, ◌⇒◌, repeated, up_to, listed, closed}
 use Rattle.surface_grammar.specs.Language.{body}
 use Rattle.spelling_cuts.specs.Words.{bare, words, AreTokens}
 use Rattle.spelling_laws.proofs.WordTokens.{word_of, word_is_token, code_is_word}
@@ -66,6 +66,10 @@ behind_one (t ∷ ts) = ts
 -- The words are tokens, and all tokens with these words derive the tree, places aside.
 abbrev pub Again : {A : Type 0} → Reading Token A → (A → A) → A → List Token → Type 0
 Again {A = A} R erase y ws = AreTokens ws × ((us : List Token) → map bare us ≡ ws → (z : A) × (erase z ≡ erase y) × R z us)
+
+-- what derives the trees by one reading derives them by another that holds of more
+pub again_by : {A : Type 0} {R S : Reading Token A} {erase : A → A} {y : A} {ws : List Token} → ((z : A) (us : List Token) → R z us → S z us) → Again R erase y ws → Again S erase y ws
+again_by more a = (a.0, λ us s. let i = a.1 us s in (i.0, i.1, more i.0 us i.2))
 
 -- the trees of names without places
 abbrev pub erased : (x : Rule) → TreeOf x → TreeOf x
@@ -173,8 +177,8 @@ kept_either ka kb =
     record {
       again = λ l y ts proper d.
           elim d [
-            | inl x ↦ (let p = ka.again l y ts proper x in (p.0, λ us s. let i = p.1 us s in (i.0, i.1, inl i.2)))
-            | inr x ↦ (let p = kb.again l y ts proper x in (p.0, λ us s. let i = p.1 us s in (i.0, i.1, inr i.2)))
+            | inl x ↦ again_by (λ z us i. inl i) (ka.again l y ts proper x)
+            | inr x ↦ again_by (λ z us i. inr i) (kb.again l y ts proper x)
           ];
     }
 
@@ -207,6 +211,12 @@ kept_many {a = a} {erase = erase} {spell = spell} {all = all} k none more =
                 (i.0, i.1 ∙ sym (ap (map erase) d.1), (i.0, refl, i.2)),
           );
     }
+
+-- at most so many items
+pub kept_up_to : {A : Type 0} (n : ℕ) (vs : List Word) {a : G A} {erase : A → A} {spell : A → List Token} {all : List A → List Token} → Kept a erase spell → all [] ≡ []
+    → ((x : A) (xs : List A) → all (x ∷ xs) ≡ spell x ++ all xs) → Kept (up_to n vs a) (map erase) all
+kept_up_to zero vs k none more = kept_pure none
+kept_up_to (suc n) vs k none more = kept_either (kept_seq k (kept_up_to n vs k none more) (λ x xs. refl) more) (kept_pure none)
 
 pub kept_call : {B : Type 0} (d : ℕ) {x : Rule} {h : TreeOf x → B} {erase : B → B} {spell : B → List Token} → ((t : TreeOf x) → erase (h t) ≡ h (erased x t))
     → ((t : TreeOf x) → spell (h t) ≡ spelled d x t) → Kept (g.call x h) erase spell
@@ -247,6 +257,10 @@ below_again a erase spell k zero lower y ts proper d = absurd d
 below_again a erase spell k (suc m) lower y ts proper d =
     k.again (record { n = m; names = Named code body m; kept = lower m (omega arith); lower = λ j small. lower j (omega (arith, small)) }) y ts proper d
 
+-- some tokens derive the tree, where these levels are open
+abbrev pub Written : Levels → {A : Type 0} → G A → A → Type 0
+Written l a y = (ts : List Token) × AreTokens ts × Has l a y ts
+
 -- some tokens derive the tree, where some levels are open
 abbrev pub Any : {A : Type 0} → G A → A → Type 1
 Any a y = (l : Levels) × (ts : List Token) × AreTokens ts × Has l a y ts
@@ -286,6 +300,51 @@ kept_nest_when {A = A} v {a = a} {erase = erase} {sa = sa} {spell = spell} k is 
 
 pub kept_nest : {A : Type 0} (v : Word) {a : G A} {erase : A → A} {sa spell : A → List Token} → Kept a erase sa → ((y : A) → spell y ≡ word_of v ∷ sa y) → Kept (g.nest (code_of v) a) erase spell
 kept_nest v k is = kept_nest_when v k (λ y some. is y)
+
+-- ---- trees that are written in two ways
+
+-- the word, and behind it what may stand behind a token that opens a level
+pub written_nest : {A : Type 0} (l : Levels) (v : Word) (a : G A) (y : A) (us : List Token) → AreTokens us → Below code body l.n A a y us → Written l (g.nest (code_of v) a) y
+written_nest l v a y us proper d =
+    (word_of v ∷ us, (word_is_token v, proper), (word_of v, us, refl, code_is_word v (word_of v) refl refl, d))
+
+-- the word, and the part behind it
+pub written_behind : {A : Type 0} (l : Levels) (v : Word) (a : G A) (y : A) → Written l a y → Written l (word v ▷ a) y
+written_behind l v a y w =
+    (word_of v ∷ w.0, (word_is_token v, w.1), (tt, y, word_of v ∷ [], w.0, refl, refl, (word_of v, refl, code_is_word v (word_of v) refl refl, refl, refl), w.2))
+
+-- one of two parts, where the first writes each tree of the second
+pub kept_first : {A : Type 0} {fs : List ℕ} {a b : G A} {erase : A → A} {spell : A → List Token} → Kept a erase spell
+    → ((l : Levels) (y : A) (ts : List Token) → AreTokens ts → Has l b y ts → Written l a y) → Kept (g.either fs a b) erase spell
+kept_first {b = b} ka other =
+    record {
+      again = λ l y ts proper d.
+          elim d [
+            | inl x ↦ again_by (λ z us i. inl i) (ka.again l y ts proper x)
+            | inr x ↦ (let w = other l y ts proper x in again_by (λ z us i. inl i) (ka.again l y w.0 w.1 w.2))
+          ];
+    }
+
+-- One of four parts, where a tree of the third is written by the first or the second, or is spelled as the third spells it.
+pub kept_tagged : {A : Type 0} {fs gs hs : List ℕ} {a b c rest : G A} {erase : A → A} {spell sc : A → List Token} → Kept a erase spell → Kept b erase spell → Kept c erase sc → Kept rest erase spell
+    → ((l : Levels) (y : A) (ts : List Token) → AreTokens ts → Has l c y ts → Written l a y ⊎ (Written l b y ⊎ (spell y ≡ sc y)))
+    → Kept (g.either fs a (g.either gs b (g.either hs c rest))) erase spell
+kept_tagged {A = A} {fs = fs} {gs = gs} {hs = hs} {a = a} {b = b} {c = c} {rest = rest} {erase = erase} {spell = spell} {sc = sc} ka kb kc kr tags =
+    record { again = by_part }
+  where
+    by_tag : (l : Levels) (y : A) (ts : List Token) → AreTokens ts → Has l c y ts → Written l a y ⊎ (Written l b y ⊎ (spell y ≡ sc y))
+        → Again (Has l (g.either fs a (g.either gs b (g.either hs c rest)))) erase y (spell y)
+    by_tag l y ts proper d (inl w) = again_by (λ z us i. inl i) (ka.again l y w.0 w.1 w.2)
+    by_tag l y ts proper d (inr (inl w)) = again_by (λ z us i. inr (inl i)) (kb.again l y w.0 w.1 w.2)
+    by_tag l y ts proper d (inr (inr same)) =
+        subst (Again (Has l (g.either fs a (g.either gs b (g.either hs c rest)))) erase y) (sym same) (again_by (λ z us i. inr (inr (inl i))) (kc.again l y ts proper d))
+
+    by_part : (l : Levels) (y : A) (ts : List Token) → AreTokens ts → Has l (g.either fs a (g.either gs b (g.either hs c rest))) y ts
+        → Again (Has l (g.either fs a (g.either gs b (g.either hs c rest)))) erase y (spell y)
+    by_part l y ts proper (inl d) = again_by (λ z us i. inl i) (ka.again l y ts proper d)
+    by_part l y ts proper (inr (inl d)) = again_by (λ z us i. inr (inl i)) (kb.again l y ts proper d)
+    by_part l y ts proper (inr (inr (inl d))) = by_tag l y ts proper d (tags l y ts proper d)
+    by_part l y ts proper (inr (inr (inr d))) = again_by (λ z us i. inr (inr (inr i))) (kr.again l y ts proper d)
 
 -- ---- words of the table
 
@@ -330,6 +389,18 @@ kept_commas spell k = kept_many (kept_behind w.Comma {spell = λ x. word_of w.Co
 pub kept_listed : {A : Type 0} {item : G A} {erase : A → A} (spell : A → List Piece) → Kept item erase (λ x. words (spell x)) → Kept (listed item) (map erase) (λ xs. words (listed_pieces spell xs))
 unfolding listed_pieces
 kept_listed spell k = kept_seq k (kept_commas spell k) (λ x xs. refl) (λ x xs. words-append (spell x) (behind_commas spell xs))
+
+-- an item and more, and the word behind them
+pub kept_and_more : {A : Type 0} (v : Word) {a : G A} {rest : G (List A)} {erase : A → A} {sa : A → List Token} (more all : List A → List Token) → Kept a erase sa → Kept rest (map erase) (λ xs. more xs ++ word_of v ∷ [])
+    → ((x : A) (xs : List A) → all (x ∷ xs) ≡ sa x ++ more xs) → Kept (g.seq (λ x xs. x ∷ xs) a rest) (map erase) (λ xs. all xs ++ word_of v ∷ [])
+kept_and_more v {sa = sa} more all ka kr is =
+    kept_seq ka kr (λ x xs. refl) (λ x xs. ap (λ (ts : List Token). ts ++ word_of v ∷ []) (is x xs) ∙ append_assoc (sa x) (more xs) (word_of v ∷ []))
+
+-- an item, another behind a word, and at most so many more
+pub kept_more_than_one : {A : Type 0} (n : ℕ) (vs : List Word) {item next : G A} {erase : A → A} {spell sn : A → List Token} {all : List A → List Token} (behind : List A → List Token) → Kept item erase spell → Kept next erase sn
+    → behind [] ≡ [] → ((x : A) (xs : List A) → behind (x ∷ xs) ≡ sn x ++ behind xs) → ((x : A) (xs : List A) → all (x ∷ xs) ≡ spell x ++ behind xs)
+    → Kept (g.seq (λ x xs. x ∷ xs) item (g.seq (λ x xs. x ∷ xs) next (up_to n vs next))) (map erase) all
+kept_more_than_one n vs behind ki kn none more is = kept_seq {sb = behind} ki (kept_seq {sb = behind} kn (kept_up_to n vs kn none more) (λ x xs. refl) more) (λ x xs. refl) is
 
 -- items, if any, and the word that closes them
 pub kept_closed : {A : Type 0} (v : Word) {items : G (List A)} {erase : A → A} {spell : List A → List Token} → Kept items (map erase) spell → spell [] ≡ []

@@ -1,8 +1,9 @@
 -- Blocks are derived by their canonical words again.
-use Rattle.std.proofs.Common.{◌≡◌, ℕ, zero, suc, ◌+◌, List, [], ◌∷◌, ◌++◌, map, codes, Option, refl, sym, ◌∙◌, ap, ap₂, append-nil, append_assoc}
+use Rattle.std.proofs.Common.{◌≡◌, ℕ, zero, suc, ◌+◌, List, [], ◌∷◌, ◌++◌, map, codes, Option, refl, sym, ◌∙◌, ap, ap₂, subst, append-nil, append_assoc}
 use denote.Hole.Carrier.{hidden}
+use mathlib.Core.Former.{this, list_count, list_put}
 use Rattle.std.specs.List.{repeat}
-use Rattle.chan_syntax.specs.declared.identifiers.Span.{Span}
+use Rattle.chan_base.specs.declared.spans.Span.{Span}
 use Rattle.chan_syntax.specs.declared.linear.Term.{Term}
 use Rattle.chan_syntax.specs.declared.linear.Bound.{Bound}
 use Rattle.chan_syntax.specs.declared.resources.Res.{Res}
@@ -11,28 +12,34 @@ use Rattle.chan_syntax.specs.declared.operands.Pat.{Pat}
 use Rattle.chan_syntax.specs.declared.operands.Letter.{Letter}
 use Rattle.chan_syntax.specs.declared.operands.Proof.{Proof}
 use Rattle.chan_syntax.specs.declared.surface_tree.Start.{Start}
-use Rattle.chan_syntax.specs.declared.surface_tree.Last.{If', Match', Branch', Loop', end_of-Last, more_of-Last}
+use Rattle.chan_syntax.specs.declared.surface_tree.Last.{If', Match', Branch', Loop', end_of-Last, more_of-Last, Row_of-SurfaceArm, more_of-SurfaceArm, Row_of-Block, more_of-Block}
 use Rattle.chan_syntax.specs.declared.surface_tree.Last.TheVariants as l
-use Rattle.chan_syntax.specs.declared.surface_tree.Last.TheBlock.{hidden-the_row-Stmt-0, hidden-the_row-Last-1}
+use Rattle.chan_syntax.specs.declared.surface_tree.Last.TheBlock.{hidden-the_row-Stmt-0, hidden-the_row-Last-1, hidden-the_row-SurfaceArm-2, hidden-the_row-Block-3, back-the_row-SurfaceArm, back-the_row-Block}
+use Rattle.chan_syntax.specs.declared.surface_tree.SurfaceArm.{SurfaceArm, roll-SurfaceArm}
 use Rattle.chan_syntax.specs.declared.surface_tree.Block.{Block}
 use Rattle.text_tokens.specs.Text.{Piece, Token}
+use Rattle.grammar_laws.specs.Grammar as g
+use Rattle.grammar_laws.specs.Grammar.{Below}
 use Rattle.surface_spelling.specs.Layout.{keyword, mark, space, step, line, closing, in_braces, listed as listed_pieces, in_parens}
 use Rattle.surface_spelling.specs.Operands as o
 use Rattle.surface_spelling.specs.Blocks as s
 use Rattle.surface_spelling.specs.Erased as e
 use Rattle.surface_spelling.proofs.SpelledBlocks.{last_ret, last_tail, last_if, last_match, last_branch, last_absurd, last_loop, last_again}
+use Rattle.surface_grammar.specs.declared.words.Word.{Word}
 use Rattle.surface_grammar.specs.declared.words.Word.TheVariants as w
 use Rattle.surface_grammar.specs.declared.parts.Named.{Named}
 use Rattle.surface_grammar.specs.declared.parts.Access.{Access}
-use Rattle.surface_grammar.specs.Words.{spelling}
-use Rattle.surface_grammar.specs.Grammar.{cover}
-use Rattle.surface_grammar.specs.Statements.{ret_last, tail_last, at_most, two_blocks, if_last, left_pat, right_pat, left_arm, right_arm, arms, match_last, as_names, branch_last, absurd_last, loop_params, loop_last, again_last, other_last, last, stmts, block}
-use Rattle.spelling_cuts.specs.Words.{words}
+use Rattle.surface_grammar.specs.Words.{spelling, code, code_of}
+use Rattle.surface_grammar.specs.Grammar.{cover, ◌▷◌, yes, more_arms_than_two, the_number}
+use Rattle.surface_grammar.specs.Language.{body}
+use Rattle.surface_grammar.specs.Operands.{pat}
+use Rattle.surface_grammar.specs.Statements.{ret_last, tail_last, at_most, two_blocks, if_last, hash_pat, left_pat, right_pat, tagged_pat, arm, arms_from, more_arms, arms, match_last, as_names, next_block, more_blocks, blocks, branch_last, absurd_last, loop_params, loop_last, again_last, other_last, last, stmts, block}
+use Rattle.spelling_cuts.specs.Words.{words, AreTokens}
 use Rattle.spelling_laws.proofs.WordTokens.{word_of}
-use Rattle.spelling_laws.proofs.Kept.{words-append, Kept, kept_seq, kept_two, kept_either, kept_many, kept_spanned, kept_nest, kept_behind, kept_before, kept_parens}
-use Rattle.spelling_laws.proofs.KeptTerms.{named, name_token, name_kept, term_kept, bound_behind_kept}
+use Rattle.spelling_laws.proofs.Kept.{words-append, tokens_back, Kept, kept_as, kept_pure, kept_seq, kept_two, kept_either, kept_many, kept_spanned, kept_nest, written_nest, kept_first, kept_behind, kept_before, kept_and_more, kept_more_than_one, kept_parens}
+use Rattle.spelling_laws.proofs.KeptTerms.{named, name_token, number_token, name_kept, the_number_kept, term_kept, bound_behind_kept}
 use Rattle.spelling_laws.proofs.KeptResources.{res_kept}
-use Rattle.spelling_laws.proofs.KeptOperands.{value_kept, given_values_kept, pat_kept}
+use Rattle.spelling_laws.proofs.KeptOperands.{left_tag, right_tag, hash_tag, value_kept, given_values_kept, pat_kept}
 use Rattle.spelling_laws.proofs.KeptProofs.{proof_kept}
 use Rattle.spelling_laws.proofs.KeptParts.{access_words, access_kept, call_kept, starts_kept, one_block_kept}
 use Rattle.spelling_laws.proofs.KeptLets.{Rows, rows_erased, sent_words, stmt_kept}
@@ -66,18 +73,44 @@ if_erased a b x y at =
     ap₂ (λ (r k : Rows). If' (e.term a) (e.term b) r.0 r.1 (tt {0}) (more_of-Last (e.last x.last) end_of-Last) k.0 k.1 (tt {0}) (more_of-Last (e.last y.last) end_of-Last) e.nowhere)
     (rows_erased x.stmts) (rows_erased y.stmts)
 
-match_erased : (n : List ℕ) (at : Span) (p : Pat) (x : Block) (q : Pat) (y : Block) (bt : Span) → e.last (l.Match n at p x q y bt) ≡ l.Match n e.nowhere (e.pat p) (e.block x) (e.pat q) (e.block y) e.nowhere
-unfolding hidden hidden-the_row-Stmt-0 hidden-the_row-Last-1
-match_erased n at p x q y bt =
-    ap₂ (λ (r k : Rows). Match' n e.nowhere (e.pat p) r.0 r.1 (tt {0}) (more_of-Last (e.last x.last) end_of-Last) (e.pat q) k.0 k.1 (tt {0}) (more_of-Last (e.last y.last) end_of-Last) e.nowhere)
-    (rows_erased x.stmts) (rows_erased y.stmts)
+-- arms in a row, and how many
+abbrev ArmRows : Type 0
+ArmRows = (m : List (this {0}).Shape) × Row_of-SurfaceArm (list_count (this {0}) m 0)
 
-branch_erased : (c : List ℕ) (at : Span) (p : List Letter) (bt : Option Span) (q : Proof) (b : List ℕ) (ct : Span) (z : List ℕ) (dt : Span) (x y : Block) (et : Span)
-    → e.last (l.Branch c at p bt q b ct z dt x y et) ≡ l.Branch c e.nowhere p (e.place bt) (e.proof q) b e.nowhere z e.nowhere (e.block x) (e.block y) e.nowhere
+abbrev arm_rows : List SurfaceArm → ArmRows
+arm_rows xs = (map ((this {0}).shape SurfaceArm) xs, back-the_row-SurfaceArm (list_count (this {0}) (map ((this {0}).shape SurfaceArm) xs) 0) (list_put (this {0}) SurfaceArm xs 0 (tt {0})))
+
+abbrev arm_of : SurfaceArm → SurfaceArm
+arm_of x = roll-SurfaceArm (record { pat = e.pat x.pat; block = e.block x.block })
+
+arms_erased : (xs : List SurfaceArm) → ◌≡◌ {A = ArmRows} ((arm_rows xs).0, e.row_of_arms (arm_rows xs).1) (arm_rows (map arm_of xs))
 unfolding hidden hidden-the_row-Stmt-0 hidden-the_row-Last-1
-branch_erased c at p bt q b ct z dt x y et =
-    ap₂ (λ (r k : Rows). Branch' c e.nowhere p (e.place bt) (e.proof q) b e.nowhere z e.nowhere r.0 r.1 (tt {0}) (more_of-Last (e.last x.last) end_of-Last) k.0 k.1 (tt {0}) (more_of-Last (e.last y.last) end_of-Last) e.nowhere)
-    (rows_erased x.stmts) (rows_erased y.stmts)
+arms_erased [] = refl
+arms_erased (x ∷ xs) =
+    ap₂ (λ (k : Rows) (r : ArmRows). (tt {0} ∷ r.0, more_of-SurfaceArm (e.pat x.pat) k.0 k.1 (tt {0}) (more_of-Last (e.last x.block.last) end_of-Last) r.1))
+    (rows_erased x.block.stmts) (arms_erased xs)
+
+match_erased : (n : List ℕ) (at : Span) (xs : List SurfaceArm) (bt : Span) → e.last (l.Match n at xs bt) ≡ l.Match n e.nowhere (map arm_of xs) e.nowhere
+unfolding hidden hidden-the_row-SurfaceArm-2
+match_erased n at xs bt = ap (λ (k : ArmRows). Match' n e.nowhere k.0 k.1 e.nowhere) (arms_erased xs)
+
+-- blocks in a row, and how many
+abbrev BlockRows : Type 0
+BlockRows = (m : List (this {0}).Shape) × Row_of-Block (list_count (this {0}) m 0)
+
+abbrev block_rows : List Block → BlockRows
+block_rows bs = (map ((this {0}).shape Block) bs, back-the_row-Block (list_count (this {0}) (map ((this {0}).shape Block) bs) 0) (list_put (this {0}) Block bs 0 (tt {0})))
+
+blocks_erased : (bs : List Block) → ◌≡◌ {A = BlockRows} ((block_rows bs).0, e.row_of_blocks (block_rows bs).1) (block_rows (map e.block bs))
+unfolding hidden hidden-the_row-Stmt-0 hidden-the_row-Last-1
+blocks_erased [] = refl
+blocks_erased (b ∷ bs) =
+    ap₂ (λ (k : Rows) (r : BlockRows). (tt {0} ∷ r.0, more_of-Block k.0 k.1 (tt {0}) (more_of-Last (e.last b.last) end_of-Last) r.1)) (rows_erased b.stmts) (blocks_erased bs)
+
+branch_erased : (c : List ℕ) (at : Span) (p : List Letter) (bt : Option Span) (q : Proof) (b : List ℕ) (ct : Span) (z : List ℕ) (dt : Span) (bs : List Block) (et : Span)
+    → e.last (l.Branch c at p bt q b ct z dt bs et) ≡ l.Branch c e.nowhere p (e.place bt) (e.proof q) b e.nowhere z e.nowhere (map e.block bs) e.nowhere
+unfolding hidden hidden-the_row-Block-3
+branch_erased c at p bt q b ct z dt bs et = ap (λ (k : BlockRows). Branch' c e.nowhere p (e.place bt) (e.proof q) b e.nowhere z e.nowhere k.0 k.1 e.nowhere) (blocks_erased bs)
 
 loop_erased : (n : List ℕ) (at : Span) (b : Bound) (xs : List Start) (r : Res) (q : Proof) (x : Block) (bt : Span)
     → e.last (l.Loop n at b xs r q x bt) ≡ l.Loop n e.nowhere (e.bound b) (map e.start xs) (e.res r) (e.proof q) (e.block x) e.nowhere
@@ -128,76 +161,105 @@ if_kept d =
     ap words (last_if d p.0.0 p.0.1 p.1.0 p.1.1 (cover ts)) ∙ head_blocks (s.condition p.0.0 p.0.1) (s.block d p.1.0) (s.block d p.1.1)
     ∙ ap (λ (ts : List Token). ts ++ blocks_words d p.1) (condition_words p.0.0 p.0.1))
 
-left_arm_kept : (d : ℕ) → Kept left_arm (λ (p : Pat × Block). (e.pat p.0, e.block p.1)) (λ (p : Pat × Block). word_of w.Inl ∷ words (o.pat p.0) ++ words (s.block d p.1))
-unfolding left_arm left_pat
-left_arm_kept d = kept_two (kept_nest w.Inl {spell = λ p. word_of w.Inl ∷ words (o.pat p)} pat_kept (λ p. refl)) (one_block_kept d)
+-- behind `#`: a number, and what may stand behind a tag
+behind_hash : (n i : ℕ) (y : Pat) (us : List Token) → AreTokens us → Below code body n Pat (the_number i ▷ pat) y us → (vs : List Token) × AreTokens vs × Below code body n Pat pat y vs
+behind_hash zero i y us proper d = absurd d
+behind_hash (suc m) i y us proper d =
+    (d.3, tokens_back d.2 d.3 (subst AreTokens d.5 proper), subst (λ (y : Pat). Below code body (suc m) Pat pat y d.3) (sym d.4) d.7)
 
-right_arm_kept : (d : ℕ) → Kept right_arm (λ (p : Pat × Block). (e.pat p.0, e.block p.1)) (λ (p : Pat × Block). word_of w.Inr ∷ words (o.pat p.0) ++ words (s.block d p.1))
-unfolding right_arm right_pat
-right_arm_kept d = kept_two (kept_nest w.Inr {spell = λ p. word_of w.Inr ∷ words (o.pat p)} pat_kept (λ p. refl)) (one_block_kept d)
+word_pat_kept : (i : ℕ) (tag : Word) → ((ps : List Piece) → words (o.tag i ++ ps) ≡ word_of tag ∷ words ps)
+    → Kept (g.either (yes (tag ∷ [])) (g.nest (code_of tag) pat) (hash_pat i)) e.pat (λ p. words (o.tag i ++ o.pat p))
+unfolding hash_pat
+word_pat_kept i tag is =
+    kept_first (kept_nest tag pat_kept (λ p. is (o.pat p)))
+    (λ l y ts proper d.
+    let q = behind_hash l.n i y d.1 (tokens_back (d.0 ∷ []) d.1 (subst AreTokens d.2 proper)) d.4 in
+    written_nest l tag pat y q.0 q.1 q.2)
 
-abbrev arms_words : ℕ → (Pat × Block) × (Pat × Block) → List Token
-arms_words d p =
-    word_of w.LeftBrace ∷ word_of w.Inl ∷ (words (o.pat p.0.0) ++ words (s.block d p.0.1)) ++ (word_of w.Inr ∷ (words (o.pat p.1.0) ++ words (s.block d p.1.1)) ++ word_of w.RightBrace ∷ [])
+tagged_kept : (i : ℕ) → Kept (tagged_pat i) e.pat (λ p. words (o.tag i ++ o.pat p))
+unfolding left_pat right_pat hash_pat
+tagged_kept zero = word_pat_kept 0 w.Inl left_tag
+tagged_kept (suc zero) = word_pat_kept 1 w.Inr right_tag
+tagged_kept (suc (suc i)) =
+    kept_nest w.Hash {sa = λ p. number_token (suc (suc i)) ∷ words (o.pat p)} (kept_seq (the_number_kept (suc (suc i))) pat_kept (λ x p. refl) (λ x p. refl)) (λ p. hash_tag i (o.pat p))
 
-arms_kept : (d : ℕ) → Kept arms (λ (p : (Pat × Block) × (Pat × Block)). ((e.pat p.0.0, e.block p.0.1), (e.pat p.1.0, e.block p.1.1))) (arms_words d)
-unfolding arms
+arm_head_words : (d i : ℕ) (p : Pat) → words (s.arm_head d i p) ≡ words (o.tag i ++ o.pat p)
+unfolding s.arm_head
+arm_head_words d i p = simp (words-append, line_words, append-nil)
+
+abbrev arm_words : ℕ → ℕ → SurfaceArm → List Token
+arm_words d i x = words (s.arm_head d i x.pat) ++ words (s.block d x.block)
+
+arm_kept : (d i : ℕ) → Kept (arm i) arm_of (arm_words d i)
+unfolding arm
+arm_kept d i = kept_seq (kept_as (tagged_kept i) (arm_head_words d i)) (one_block_kept d) (λ p b. refl) (λ p b. refl)
+
+more_words : (d i : ℕ) (x : SurfaceArm) (xs : List SurfaceArm) → words (s.arms d i (x ∷ xs)) ≡ arm_words d i x ++ words (s.arms d (suc i) xs)
+unfolding s.arms
+more_words d i x xs =
+    words-append (s.arm_head d i x.pat ++ s.block d x.block) (s.arms d (suc i) xs)
+    ∙ ap (λ (ts : List Token). ts ++ words (s.arms d (suc i) xs)) (words-append (s.arm_head d i x.pat) (s.block d x.block))
+
+arms_from_kept : (d n i : ℕ) → Kept (arms_from n i) (map arm_of) (λ xs. words (s.arms d i xs))
+unfolding s.arms
+arms_from_kept d zero i = kept_pure refl
+arms_from_kept d (suc n) i = kept_either (kept_seq (arm_kept d i) (arms_from_kept d n (suc i)) (λ x xs. refl) (more_words d i)) (kept_pure refl)
+
+abbrev arms_words : ℕ → List SurfaceArm → List Token
+arms_words d xs = word_of w.LeftBrace ∷ words (s.arms d 0 xs) ++ word_of w.RightBrace ∷ []
+
+arms_kept : (d : ℕ) → Kept arms (map arm_of) (arms_words d)
+unfolding arms more_arms
 arms_kept d =
     kept_nest w.LeftBrace
-    (kept_two (left_arm_kept d) (kept_before w.RightBrace {spell = λ (p : Pat × Block). word_of w.Inr ∷ (words (o.pat p.0) ++ words (s.block d p.1)) ++ word_of w.RightBrace ∷ []} (right_arm_kept d) (λ p. refl)))
-    (λ p. refl)
+    (kept_and_more w.RightBrace (λ xs. words (s.arms d 1 xs)) (λ xs. words (s.arms d 0 xs)) (arm_kept d 0)
+    (kept_and_more w.RightBrace (λ xs. words (s.arms d 2 xs)) (λ xs. words (s.arms d 1 xs)) (arm_kept d 1)
+    (kept_before w.RightBrace (arms_from_kept d more_arms_than_two 2) (λ xs. refl)) (more_words d 1)) (more_words d 0))
+    (λ xs. refl)
 
-left_head : (d : ℕ) (p : Pat) → words (s.arm_head d (codes "inl") p) ≡ word_of w.Inl ∷ words (o.pat p)
-unfolding s.arm_head spelling
-left_head d p = with_space (line d ++ keyword (codes "inl") ∷ space ∷ o.pat p) ∙ on_line d (keyword (codes "inl") ∷ space ∷ o.pat p)
-
-right_head : (d : ℕ) (p : Pat) → words (s.arm_head d (codes "inr") p) ≡ word_of w.Inr ∷ words (o.pat p)
-unfolding s.arm_head spelling
-right_head d p = with_space (line d ++ keyword (codes "inr") ∷ space ∷ o.pat p) ∙ on_line d (keyword (codes "inr") ∷ space ∷ o.pat p)
-
-six_parts : (a b c x y z : List Piece) → words (a ++ b ++ c ++ x ++ y ++ z) ≡ words a ++ (words b ++ (words c ++ (words x ++ (words y ++ words z))))
-six_parts a b c x y z = simp (words-append, append_assoc)
-
-two_arms : (head : List Token) (t u : Token) (b c x y z : List Token) → head ++ ((t ∷ b) ++ (c ++ ((u ∷ x) ++ (y ++ z)))) ≡ head ++ (t ∷ (b ++ c) ++ (u ∷ (x ++ y) ++ z))
-two_arms head t u b c x y z = simp append_assoc
-
-match_words : (d : ℕ) (n : List ℕ) (at : Span) (p : Pat) (x : Block) (q : Pat) (y : Block) (bt : Span)
-    → words (s.last d (l.Match n at p x q y bt)) ≡ word_of w.Match ∷ name_token n ∷ arms_words (d + step) ((p, x), (q, y))
+match_words : (d : ℕ) (n : List ℕ) (at : Span) (xs : List SurfaceArm) (bt : Span) → words (s.last d (l.Match n at xs bt)) ≡ word_of w.Match ∷ name_token n ∷ arms_words (d + step) xs
 unfolding s.match_head spelling
-match_words d n at p x q y bt =
-    ap words (last_match d n at p x q y bt)
-    ∙ six_parts (s.match_head n) (s.arm_head (d + step) (codes "inl") p) (s.block (d + step) x) (s.arm_head (d + step) (codes "inr") q) (s.block (d + step) y) (closing d)
-    ∙ ap₂ (λ (first second : List Token). words (s.match_head n) ++ (first ++ (words (s.block (d + step) x) ++ (second ++ (words (s.block (d + step) y) ++ words (closing d)))))) (left_head (d + step) p) (right_head (d + step) q)
-    ∙ ap (λ (ts : List Token). words (s.match_head n) ++ ((word_of w.Inl ∷ words (o.pat p)) ++ (words (s.block (d + step) x) ++ ((word_of w.Inr ∷ words (o.pat q)) ++ (words (s.block (d + step) y) ++ ts))))) (closing_words d)
-    ∙ two_arms (words (s.match_head n)) (word_of w.Inl) (word_of w.Inr) (words (o.pat p)) (words (s.block (d + step) x)) (words (o.pat q)) (words (s.block (d + step) y)) (word_of w.RightBrace ∷ [])
+match_words d n at xs bt =
+    ap words (last_match d n at xs bt) ∙ words-append (s.match_head n ++ s.arms (d + step) 0 xs) (closing d)
+    ∙ ap₂ (λ (first second : List Token). first ++ second) (words-append (s.match_head n) (s.arms (d + step) 0 xs)) (closing_words d)
 
 match_kept : (d : ℕ) → Kept match_last e.last (λ x. words (s.last d x))
 unfolding match_last cover
 match_kept d =
-    kept_spanned {sa = λ (p : Named × ((Pat × Block) × (Pat × Block))). word_of w.Match ∷ name_token p.0.name ∷ arms_words (d + step) p.1} (kept_behind w.Match (kept_two name_kept (arms_kept (d + step))) (λ p. refl))
-    (λ ts p. match_erased p.0.name p.0.span p.1.0.0 p.1.0.1 p.1.1.0 p.1.1.1 (cover ts)) (λ ts p. match_words d p.0.name p.0.span p.1.0.0 p.1.0.1 p.1.1.0 p.1.1.1 (cover ts))
+    kept_spanned {sa = λ (p : Named × List SurfaceArm). word_of w.Match ∷ name_token p.0.name ∷ arms_words (d + step) p.1} (kept_behind w.Match (kept_two name_kept (arms_kept (d + step))) (λ p. refl))
+    (λ ts p. match_erased p.0.name p.0.span p.1 (cover ts)) (λ ts p. match_words d p.0.name p.0.span p.1 (cover ts))
 
 as_names_kept : Kept as_names (λ (p : Named × Named). (named p.0, named p.1)) (λ (p : Named × Named). words (s.as_names p.0.name p.1.name))
 unfolding as_names s.as_names spelling
 as_names_kept =
     kept_behind w.As (kept_two name_kept (kept_behind w.Comma {spell = λ n. word_of w.Comma ∷ name_token n.name ∷ []} name_kept (λ n. refl))) (λ p. refl)
 
-branch_words : (d : ℕ) (a : Access) (b z : Named) (x y : Block) (at : Span)
-    → words (s.last d (l.Branch a.channel.name a.channel.span a.route.path a.route.span a.proof b.name b.span z.name z.span x y at)) ≡ word_of w.Branch ∷ access_words a ++ (words (s.as_names b.name z.name) ++ blocks_words d (x, y))
+next_block_kept : (d : ℕ) → Kept next_block e.block (λ b. word_of w.Else ∷ words (s.block d b))
+unfolding next_block
+next_block_kept d = kept_behind w.Else (one_block_kept d) (λ b. refl)
+
+blocks_kept : (d : ℕ) → Kept blocks (map e.block) (λ bs. words (s.blocks d bs))
+unfolding blocks more_blocks s.blocks s.behind_else spelling
+blocks_kept d =
+    kept_more_than_one more_arms_than_two (w.Else ∷ []) (λ bs. words (s.behind_else d bs)) (one_block_kept d) (next_block_kept d) refl
+    (λ b bs. words-append (space ∷ keyword (codes "else") ∷ space ∷ s.block d b) (s.behind_else d bs)) (λ b bs. words-append (s.block d b) (s.behind_else d bs))
+
+branch_words : (d : ℕ) (a : Access) (b z : Named) (bs : List Block) (at : Span)
+    → words (s.last d (l.Branch a.channel.name a.channel.span a.route.path a.route.span a.proof b.name b.span z.name z.span bs at)) ≡ word_of w.Branch ∷ access_words a ++ (words (s.as_names b.name z.name) ++ words (s.blocks d bs))
 unfolding s.branch_head spelling
-branch_words d a b z x y at =
-    ap words (last_branch d a.channel.name a.channel.span a.route.path a.route.span a.proof b.name b.span z.name z.span x y at)
-    ∙ head_blocks (s.branch_head a.channel.name a.route.path a.proof b.name z.name) (s.block d x) (s.block d y)
-    ∙ ap (λ (ts : List Token). word_of w.Branch ∷ ts ++ blocks_words d (x, y)) (words-append (s.access a.channel.name a.route.path a.proof) (s.as_names b.name z.name))
-    ∙ ap (λ (ts : List Token). word_of w.Branch ∷ ts) (append_assoc (access_words a) (words (s.as_names b.name z.name)) (blocks_words d (x, y)))
+branch_words d a b z bs at =
+    ap words (last_branch d a.channel.name a.channel.span a.route.path a.route.span a.proof b.name b.span z.name z.span bs at)
+    ∙ words-append (s.branch_head a.channel.name a.route.path a.proof b.name z.name) (s.blocks d bs)
+    ∙ ap (λ (ts : List Token). word_of w.Branch ∷ ts ++ words (s.blocks d bs)) (words-append (s.access a.channel.name a.route.path a.proof) (s.as_names b.name z.name))
+    ∙ ap (λ (ts : List Token). word_of w.Branch ∷ ts) (append_assoc (access_words a) (words (s.as_names b.name z.name)) (words (s.blocks d bs)))
 
 branch_kept : (d : ℕ) → Kept branch_last e.last (λ x. words (s.last d x))
 unfolding branch_last cover
 branch_kept d =
-    kept_spanned {sa = λ (p : Access × ((Named × Named) × (Block × Block))). word_of w.Branch ∷ access_words p.0 ++ (words (s.as_names p.1.0.0.name p.1.0.1.name) ++ blocks_words d p.1.1)}
-    (kept_behind w.Branch (kept_two access_kept (kept_two as_names_kept (two_blocks_kept d))) (λ p. refl))
-    (λ ts p. branch_erased p.0.channel.name p.0.channel.span p.0.route.path p.0.route.span p.0.proof p.1.0.0.name p.1.0.0.span p.1.0.1.name p.1.0.1.span p.1.1.0 p.1.1.1 (cover ts))
-    (λ ts p. branch_words d p.0 p.1.0.0 p.1.0.1 p.1.1.0 p.1.1.1 (cover ts))
+    kept_spanned {sa = λ (p : Access × ((Named × Named) × List Block)). word_of w.Branch ∷ access_words p.0 ++ (words (s.as_names p.1.0.0.name p.1.0.1.name) ++ words (s.blocks d p.1.1))}
+    (kept_behind w.Branch (kept_two access_kept (kept_two as_names_kept (blocks_kept d))) (λ p. refl))
+    (λ ts p. branch_erased p.0.channel.name p.0.channel.span p.0.route.path p.0.route.span p.0.proof p.1.0.0.name p.1.0.0.span p.1.0.1.name p.1.0.1.span p.1.1 (cover ts))
+    (λ ts p. branch_words d p.0 p.1.0.0 p.1.0.1 p.1.1 (cover ts))
 
 absurd_kept : (d : ℕ) → Kept absurd_last e.last (λ x. words (s.last d x))
 unfolding absurd_last cover spelling

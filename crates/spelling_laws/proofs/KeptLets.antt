@@ -1,8 +1,8 @@
 -- Statements are derived by their canonical words again.
-use Rattle.std.proofs.Common.{◌≡◌, ℕ, inl, inr, true, false, List, [], ◌∷◌, ◌++◌, map, codes, refl, ◌∙◌, ap, append-nil, append_assoc}
+use Rattle.std.proofs.Common.{◌≡◌, ℕ, inl, inr, List, [], ◌∷◌, ◌++◌, map, codes, refl, ◌∙◌, ap, append-nil, append_assoc}
 use denote.Hole.Carrier.{hidden}
 use mathlib.Core.Former.{this, list_count, list_put}
-use Rattle.chan_syntax.specs.declared.identifiers.Span.{Span}
+use Rattle.chan_base.specs.declared.spans.Span.{Span}
 use Rattle.chan_syntax.specs.declared.linear.Bound.{Bound}
 use Rattle.chan_syntax.specs.declared.resources.Ref.{Ref}
 use Rattle.chan_syntax.specs.declared.resources.Param.{Param}
@@ -91,8 +91,7 @@ pattern_words ns (given_.Call c) = words (o.names_behind ns.names)
 pattern_words ns (given_.Fork r c) = []
 pattern_words ns (given_.Recv1 a) = words (o.names_behind ns.names)
 pattern_words ns (given_.Send a x q) = []
-pattern_words ns (given_.Left a q) = []
-pattern_words ns (given_.Right a q) = []
+pattern_words ns (given_.Choose i a q) = []
 
 abbrev named_words : ℕ → NamedGiven → List Token
 named_words d x = pattern_words x.names x.given ++ word_of w.Equals ∷ given_words d x.given
@@ -110,8 +109,7 @@ no_pattern (given_.Call c) = refl
 no_pattern (given_.Fork r c) = refl
 no_pattern (given_.Recv1 a) = refl
 no_pattern (given_.Send a x q) = refl
-no_pattern (given_.Left a q) = refl
-no_pattern (given_.Right a q) = refl
+no_pattern (given_.Choose i a q) = refl
 
 a_pattern : (ns : Names) (x : Given) → Any (word w.Equals ▷ given_to_pattern) x → pattern_words ns x ≡ words (o.names_behind ns.names)
 unfolding given_to_pattern
@@ -159,6 +157,13 @@ let_two : (n : List ℕ) (first rest : List Piece) → words (s.let_is (name_pie
 let_two n first rest =
     words-append (s.let_is (name_piece n ∷ []) ++ first) rest ∙ ap (λ (ts : List Token). ts ++ words rest) (let_words (name_piece n ∷ []) first)
 
+-- three, with a space behind the first
+let_three : (n : List ℕ) (first second rest : List Piece)
+    → words (s.let_is (name_piece n ∷ []) ++ first ++ space ∷ second ++ rest) ≡ word_of w.Let ∷ name_token n ∷ word_of w.Equals ∷ words first ++ (words second ++ words rest)
+let_three n first second rest =
+    words-append (s.let_is (name_piece n ∷ []) ++ first ++ space ∷ second) rest ∙ ap (λ (ts : List Token). ts ++ words rest) (let_two n first (space ∷ second))
+    ∙ ap (λ (ts : List Token). word_of w.Let ∷ name_token n ∷ word_of w.Equals ∷ ts) (append_assoc (words first) (words second) (words rest))
+
 fork_words : (n : List ℕ) (r : Ref) (rest : List Piece) → words (s.let_fork n r ++ rest) ≡ word_of w.Let ∷ name_token n ∷ word_of w.Equals ∷ word_of w.Fork ∷ words (o.reference r) ++ words rest
 unfolding s.let_fork spelling
 fork_words n r rest =
@@ -191,12 +196,9 @@ named_stmt d n ns (given_.Send a x q) at =
     ap words (stmt_send d n.name n.span a.channel.name a.channel.span a.proto a.route.path a.route.span x q at)
     ∙ let_two n.name (keyword (codes "send") ∷ space ∷ s.target a.channel.name a.proto a.route.path) (s.sent x q)
     ∙ ap (λ (ts : List Token). word_of w.Let ∷ name_token n.name ∷ word_of w.Equals ∷ word_of w.Send ∷ target_words a ++ ts) (sent_words x q)
-named_stmt d n ns (given_.Left a q) at =
-    ap words (stmt_choose d false n.name n.span a.channel.name a.channel.span a.proto a.route.path a.route.span q at)
-    ∙ let_two n.name (keyword (codes "left") ∷ space ∷ s.target a.channel.name a.proto a.route.path) (o.proof q)
-named_stmt d n ns (given_.Right a q) at =
-    ap words (stmt_choose d true n.name n.span a.channel.name a.channel.span a.proto a.route.path a.route.span q at)
-    ∙ let_two n.name (keyword (codes "right") ∷ space ∷ s.target a.channel.name a.proto a.route.path) (o.proof q)
+named_stmt d n ns (given_.Choose i a q) at =
+    ap words (stmt_choose d i n.name n.span a.channel.name a.channel.span a.proto a.route.path a.route.span q at)
+    ∙ let_three n.name (s.chosen i) (s.target a.channel.name a.proto a.route.path) (o.proof q)
 
 pair_stmt : (d : ℕ) (x y : Pat) (given : PairGiven) (at : Span) → words (s.stmt d (let_pair x y given at)) ≡ word_of w.Let ∷ words (o.two_pats x y) ++ pair_given_words given
 unfolding spelling
@@ -237,8 +239,7 @@ named_erased n ns (given_.Fork r (f.Call c)) at = refl
 named_erased n ns (given_.Fork r (f.Block t)) at = fork_do_erased n.name n.span r t.func.name t.func.span t.bound t.param t.starts t.proof t.block at
 named_erased n ns (given_.Recv1 a) at = refl
 named_erased n ns (given_.Send a x q) at = refl
-named_erased n ns (given_.Left a q) at = refl
-named_erased n ns (given_.Right a q) at = refl
+named_erased n ns (given_.Choose i a q) at = refl
 
 let_erased : (x : Binding) (at : Span) → e.stmt (let_of x at) ≡ let_of (binding_of x) e.nowhere
 let_erased (b.Name n x) at = named_erased n x.names x.given at

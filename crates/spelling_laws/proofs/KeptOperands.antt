@@ -1,11 +1,12 @@
 -- Values, patterns, paths and proofs are derived by their canonical words again.
-use Rattle.std.proofs.Common.{◌≡◌, ℕ, ◌==◌, inl, inr, Bool, true, false, if◌then◌else◌, List, [], ◌∷◌, ◌++◌, map, Option, Some, refl, sym, ◌∙◌, ap, ap₂, subst, append_assoc}
+use Rattle.std.proofs.Common.{◌≡◌, ℕ, zero, suc, ◌==◌, ◌⊎◌, inl, inr, Bool, true, false, if◌then◌else◌, List, [], ◌∷◌, ◌++◌, map, Option, Some, refl, sym, ◌∙◌, ap, ap₂, subst, append_assoc, arith}
 use Rattle.std.specs.List.{list_all}
 use Rattle.std.proofs.lemmas.Bool.{and_parts, or_cases, eqb-true}
+use Rattle.std.proofs.lemmas.Grind.{common_steps}
 use denote.Hole.Carrier.{hidden}
 use Rattle.chan_syntax.specs.declared.operands.Supply.TheBlock.{hidden-the_row-Supply-0}
-use Rattle.chan_syntax.specs.declared.identifiers.Span.{Span}
-use Rattle.chan_syntax.specs.declared.operands.Supply.{Supply}
+use Rattle.chan_base.specs.declared.spans.Span.{Span}
+use Rattle.chan_syntax.specs.declared.operands.Supply.{Supply, Arm'}
 use Rattle.chan_syntax.specs.declared.operands.Supply.TheVariants as v
 use Rattle.chan_syntax.specs.declared.operands.Letter.{Letter}
 use Rattle.chan_syntax.specs.declared.operands.Letter.TheVariants as letter
@@ -13,22 +14,25 @@ use Rattle.text_tokens.specs.Word.{HasForm, IsToken}
 use Rattle.text_tokens.specs.Text.{Piece, Token}
 use Rattle.text_tokens.proofs.Forms.{no_form-nil}
 use Rattle.grammar_laws.specs.Grammar as g
-use Rattle.surface_spelling.specs.Layout.{listed as listed_pieces, in_brackets}
+use Rattle.grammar_laws.specs.Grammar.{Below}
+use Rattle.surface_spelling.specs.Layout.{space, listed as listed_pieces, in_brackets}
 use Rattle.surface_spelling.specs.Operands as s
 use Rattle.surface_spelling.specs.Operands.{a_name, letter_byte}
 use Rattle.surface_spelling.specs.Erased as e
-use Rattle.surface_spelling.proofs.Spelled.{value_unit, value_pair, value_left, value_right, value_sum}
+use Rattle.surface_spelling.proofs.Spelled.{value_unit, value_pair, value_arm, value_sum}
+use Rattle.surface_grammar.specs.declared.words.Word.{Word}
 use Rattle.surface_grammar.specs.declared.words.Word.TheVariants as w
 use Rattle.surface_grammar.specs.declared.parts.Names.{Names}
 use Rattle.surface_grammar.specs.declared.parts.Digits.{Digits}
 use Rattle.surface_grammar.specs.declared.parts.Route.{Route}
-use Rattle.surface_grammar.specs.Words.{spelling, name_code}
+use Rattle.surface_grammar.specs.Words.{spelling, code, code_of, name_code}
+use Rattle.surface_grammar.specs.Language.{body}
 use Rattle.surface_grammar.specs.Grammar.{AValue, cover, word, ◌◁◌, is_letter, letter_of, names, letters}
-use Rattle.surface_grammar.specs.Operands.{pair, parenthesized, value, values, given_values, bracketed, names_if_any, pat, route, ratio, minus_mention, plain_mention, mention, mentions, mentions_to_brace}
+use Rattle.surface_grammar.specs.Operands.{pair, parenthesized, numbered_value, value, values, given_values, bracketed, names_if_any, pat, route, ratio, minus_mention, plain_mention, mention, mentions, mentions_to_brace}
 use Rattle.spelling_cuts.specs.Words.{words, AreTokens}
 use Rattle.spelling_laws.proofs.WordTokens.{word_of, is_name}
-use Rattle.spelling_laws.proofs.Kept.{behind_one, Kept, Any, any_seq, any_nest, one_again, word_kept, kept_when, kept_pure, kept_seq, kept_either, kept_call, kept_spanned, kept_nest, kept_nest_when, kept_map, kept_behind_when, kept_behind, kept_before, kept_listed, kept_closed, kept_parens, parens_words, brackets_words, pair_words}
-use Rattle.spelling_laws.proofs.KeptTerms.{names_of, digits, name_token, number_token, name_at, name_kept, number_kept, names_kept, some_names, term_kept}
+use Rattle.spelling_laws.proofs.Kept.{tokens_back, behind_one, Levels, Has, Kept, Written, Any, written_nest, any_seq, any_nest, one_again, word_kept, kept_when, kept_pure, kept_seq, kept_either, kept_call, kept_spanned, kept_nest, kept_nest_when, kept_tagged, kept_map, kept_behind_when, kept_behind, kept_before, kept_listed, kept_closed, kept_parens, parens_words, brackets_words, pair_words}
+use Rattle.spelling_laws.proofs.KeptTerms.{names_of, digits, name_token, number_token, name_at, name_kept, number_kept, arm_number_kept, names_kept, some_names, term_kept}
 
 -- ---- values
 
@@ -36,13 +40,9 @@ erased_pair : (a b : Supply) → e.value (v.Pair a b) ≡ v.Pair (e.value a) (e.
 unfolding hidden hidden-the_row-Supply-0
 erased_pair a b = refl
 
-erased_left : (a : Supply) → e.value (v.Left a) ≡ v.Left (e.value a)
+erased_arm : (i : ℕ) (a : Supply) → e.value (v.Arm i a) ≡ v.Arm i (e.value a)
 unfolding hidden hidden-the_row-Supply-0
-erased_left a = refl
-
-erased_right : (a : Supply) → e.value (v.Right a) ≡ v.Right (e.value a)
-unfolding hidden hidden-the_row-Supply-0
-erased_right a = refl
+erased_arm i a = refl
 
 one_value_kept : Kept (g.call AValue (λ x. x)) e.value (λ x. words (s.value x))
 one_value_kept = kept_call 0 (λ x. refl) (λ x. refl)
@@ -79,28 +79,87 @@ parenthesized_words x some =
       | inr d ↦ headed (words (s.value x)) (words (s.value d.0) ++ (word_of w.Comma ∷ words (s.value d.1) ++ word_of w.RightParen ∷ [])) (word_of w.LeftParen) (ap (λ (x : Supply). words (s.value x)) d.4 ∙ two_words d.0 d.1)
     ]
 
-left_kept : Kept (g.call AValue v.Left) e.value (λ x. behind_one (words (s.value x)))
-unfolding spelling
-left_kept = kept_call 0 erased_left (λ x. ap (λ (ps : List Piece). behind_one (words ps)) (value_left x))
+pub not_zero : (i : ℕ) → (suc (suc i) == 0) ≡ false
+not_zero i = grind (arith, common_steps)
 
-right_kept : Kept (g.call AValue v.Right) e.value (λ x. behind_one (words (s.value x)))
-unfolding spelling
-right_kept = kept_call 0 erased_right (λ x. ap (λ (ps : List Piece). behind_one (words ps)) (value_right x))
+pub not_one : (i : ℕ) → (suc (suc i) == 1) ≡ false
+not_one i = grind (arith, common_steps)
 
-left_words : (x : Supply) → Any (g.call AValue v.Left) x → words (s.value x) ≡ word_of w.Inl ∷ behind_one (words (s.value x))
-unfolding spelling
-left_words x some = headed (words (s.value x)) (words (s.value some.3.0)) (word_of w.Inl) (ap (λ (x : Supply). words (s.value x)) some.3.1 ∙ ap words (value_left some.3.0))
+-- the words of a tag, and what follows it
+pub left_tag : (ps : List Piece) → words (s.tag 0 ++ ps) ≡ word_of w.Inl ∷ words ps
+unfolding s.tag spelling
+left_tag ps = refl
 
-right_words : (x : Supply) → Any (g.call AValue v.Right) x → words (s.value x) ≡ word_of w.Inr ∷ behind_one (words (s.value x))
-unfolding spelling
-right_words x some = headed (words (s.value x)) (words (s.value some.3.0)) (word_of w.Inr) (ap (λ (x : Supply). words (s.value x)) some.3.1 ∙ ap words (value_right some.3.0))
+pub right_tag : (ps : List Piece) → words (s.tag 1 ++ ps) ≡ word_of w.Inr ∷ words ps
+unfolding s.tag spelling
+right_tag ps = refl
+
+pub hash_tag : (i : ℕ) (ps : List Piece) → words (s.tag (suc (suc i)) ++ ps) ≡ word_of w.Hash ∷ number_token (suc (suc i)) ∷ words ps
+unfolding s.tag spelling
+hash_tag i ps = rw (not_zero i, not_one i) refl
+
+-- a value whose tag is a word
+arm_kept : (i : ℕ) (tag : Word) → ((a : Supply) → words (s.value (v.Arm i a)) ≡ word_of tag ∷ words (s.value a))
+    → Kept (g.nest (code_of tag) (g.call AValue (v.Arm i))) e.value (λ x. words (s.value x))
+arm_kept i tag is =
+    kept_nest_when tag {sa = λ x. behind_one (words (s.value x))} (kept_call 0 (erased_arm i) (λ a. ap behind_one (is a)))
+    (λ x some. headed (words (s.value x)) (words (s.value some.3.0)) (word_of tag) (ap (λ (x : Supply). words (s.value x)) some.3.1 ∙ is some.3.0))
+
+left_words : (a : Supply) → words (s.value (v.Arm 0 a)) ≡ word_of w.Inl ∷ words (s.value a)
+left_words a = ap words (value_arm 0 a) ∙ left_tag (space ∷ s.value a)
+
+right_words : (a : Supply) → words (s.value (v.Arm 1 a)) ≡ word_of w.Inr ∷ words (s.value a)
+right_words a = ap words (value_arm 1 a) ∙ right_tag (space ∷ s.value a)
+
+-- the words behind `#`, for each number
+abbrev numbered_words : Supply → List Token
+numbered_words (Arm' i m a) = number_token i ∷ words (s.boxed_value a)
+numbered_words _ = []
+
+numbered_arm : (i : ℕ) (a : Supply) → numbered_words (v.Arm i a) ≡ number_token i ∷ words (s.value a)
+unfolding hidden hidden-the_row-Supply-0 s.boxed_value
+numbered_arm i a = refl
+
+numbered_kept : Kept numbered_value e.value numbered_words
+unfolding numbered_value
+numbered_kept = kept_seq arm_number_kept one_value_kept erased_arm numbered_arm
+
+hash_words : (i : ℕ) (a : Supply) → words (s.value (v.Arm (suc (suc i)) a)) ≡ word_of w.Hash ∷ numbered_words (v.Arm (suc (suc i)) a)
+hash_words i a =
+    ap words (value_arm (suc (suc i)) a) ∙ hash_tag i (space ∷ s.value a) ∙ ap (λ (ts : List Token). word_of w.Hash ∷ ts) (sym (numbered_arm (suc (suc i)) a))
+
+-- behind `#`: a number, and what may stand behind a tag
+behind_hash : (n : ℕ) (y : Supply) (us : List Token) → AreTokens us → Below code body n Supply numbered_value y us
+    → (i : ℕ) × (a : Supply) × (vs : List Token) × AreTokens vs × (y ≡ v.Arm i a) × Below code body n Supply (g.call AValue (v.Arm i)) y vs
+unfolding numbered_value
+behind_hash zero y us proper d = absurd d
+behind_hash (suc m) y us proper d =
+    (d.0, d.1, d.3, tokens_back d.2 d.3 (subst AreTokens d.5 proper), d.4, (d.7.0, d.4 ∙ ap (v.Arm d.0) d.7.1, d.7.2))
+
+module _ (l : Levels) where
+  -- by `inl` or `inr`, or by a number that is neither 0 nor 1
+  abbrev IsTagged : Supply → Type 0
+  IsTagged y =
+      Written l (g.nest (code_of w.Inl) (g.call AValue (v.Arm 0))) y
+      ⊎ (Written l (g.nest (code_of w.Inr) (g.call AValue (v.Arm 1))) y ⊎ (words (s.value y) ≡ word_of w.Hash ∷ numbered_words y))
+
+  by_tag : (i : ℕ) (y a : Supply) (us : List Token) → AreTokens us → y ≡ v.Arm i a → Below code body l.n Supply (g.call AValue (v.Arm i)) y us → IsTagged y
+  by_tag zero y a us proper is d = inl (written_nest l w.Inl (g.call AValue (v.Arm 0)) y us proper d)
+  by_tag (suc zero) y a us proper is d = inr (inl (written_nest l w.Inr (g.call AValue (v.Arm 1)) y us proper d))
+  by_tag (suc (suc i)) y a us proper is d =
+      inr (inr (subst (λ (y : Supply). words (s.value y) ≡ word_of w.Hash ∷ numbered_words y) (sym is) (hash_words i a)))
+
+  tagged : (y : Supply) (ts : List Token) → AreTokens ts → Has l (g.nest (code_of w.Hash) numbered_value) y ts → IsTagged y
+  tagged y ts proper d =
+      let q = behind_hash l.n y d.1 (tokens_back (d.0 ∷ []) d.1 (subst AreTokens d.2 proper)) d.4 in
+      by_tag q.0 y q.1 q.2 q.3 q.4 q.5
 
 pub value_kept : Kept value e.value (λ x. words (s.value x))
 unfolding value
 value_kept =
     kept_either (kept_nest_when w.LeftParen parenthesized_kept parenthesized_words)
-    (kept_either (kept_nest_when w.Inl left_kept left_words)
-    (kept_either (kept_nest_when w.Inr right_kept right_words) (kept_map term_kept (λ t. refl) (λ t. ap words (value_sum t)))))
+    (kept_tagged (arm_kept 0 w.Inl left_words) (arm_kept 1 w.Inr right_words) (kept_nest w.Hash {spell = λ x. word_of w.Hash ∷ numbered_words x} numbered_kept (λ x. refl))
+    (kept_map term_kept (λ t. refl) (λ t. ap words (value_sum t))) tagged)
 
 values_kept : Kept values (map e.value) (λ xs. words (listed_pieces s.value xs))
 unfolding values

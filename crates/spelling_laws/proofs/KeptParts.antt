@@ -1,5 +1,5 @@
 -- What several statements have is derived by its canonical words again.
-use Rattle.std.proofs.Common.{◌≡◌, ℕ, ◌⊎◌, inl, inr, Some, List, [], ◌∷◌, ◌++◌, map, codes, refl, sym, ◌∙◌, ap, subst, append-nil, append_assoc}
+use Rattle.std.proofs.Common.{◌≡◌, ℕ, zero, suc, ◌⊎◌, inl, inr, Some, List, [], ◌∷◌, ◌++◌, map, codes, refl, sym, ◌∙◌, ap, subst, append-nil, append_assoc}
 use Rattle.chan_syntax.specs.declared.linear.Part.{Part}
 use Rattle.chan_syntax.specs.declared.linear.Term.{Term}
 use Rattle.chan_syntax.specs.declared.resources.Param.{Param}
@@ -25,15 +25,16 @@ use Rattle.surface_grammar.specs.declared.parts.Tail.TheVariants as t
 use Rattle.surface_grammar.specs.declared.parts.Given.{Given}
 use Rattle.surface_grammar.specs.declared.parts.Given.TheVariants as v
 use Rattle.surface_grammar.specs.Words.{spelling}
-use Rattle.surface_grammar.specs.Grammar.{ABlock, cover, name}
+use Rattle.surface_grammar.specs.Grammar.{ABlock, cover, word, ◌▷◌, name}
 use Rattle.surface_grammar.specs.Terms.{part_of, prod, first_part, more_parts, term, number_part, number_term}
-use Rattle.surface_grammar.specs.Statements.{access, target, call, start, more_starts, starts, task_params, task, forked, tail, named_given, given_name, given_term, given_target, given_end, given, given_to_pattern}
+use Rattle.surface_grammar.specs.Operands.{proof}
+use Rattle.surface_grammar.specs.Statements.{access, target, call, start, more_starts, starts, task_params, task, forked, tail, named_given, given_name, given_term, numbered_choice, given_target, given_end, given, given_to_pattern}
 use Rattle.spelling_cuts.specs.Words.{words, AreTokens}
 use Rattle.spelling_laws.proofs.WordTokens.{word_of}
-use Rattle.spelling_laws.proofs.Kept.{words-append, Again, Levels, Has, Kept, kept_seq, kept_two, kept_either, kept_call, kept_nest, kept_map, kept_behind, kept_before, kept_behind_seq, kept_behind_map, kept_commas, kept_listed, parens_words}
-use Rattle.spelling_laws.proofs.KeptTerms.{named, digits, name_token, name_kept, term_kept, two_terms_kept, term_and_number_kept, bound_behind_kept, reference_kept}
+use Rattle.spelling_laws.proofs.Kept.{words-append, tokens_back, Again, Levels, Has, Kept, Written, written_behind, kept_tagged, kept_seq, kept_two, kept_either, kept_call, kept_nest, kept_map, kept_behind, kept_before, kept_behind_seq, kept_behind_map, kept_commas, kept_listed, parens_words}
+use Rattle.spelling_laws.proofs.KeptTerms.{named, digits, name_token, number_token, name_kept, arm_number_kept, term_kept, two_terms_kept, term_and_number_kept, bound_behind_kept, reference_kept}
 use Rattle.spelling_laws.proofs.KeptResources.{shape_kept, param_kept}
-use Rattle.spelling_laws.proofs.KeptOperands.{route_of, route_kept, value_kept, given_values_kept}
+use Rattle.spelling_laws.proofs.KeptOperands.{not_zero, not_one, route_of, route_kept, value_kept, given_values_kept}
 use Rattle.spelling_laws.proofs.KeptProofs.{proof_kept}
 
 -- ---- channels, calls and starts
@@ -146,8 +147,7 @@ given_of (v.Call c) = v.Call (called_of c)
 given_of (v.Fork r c) = v.Fork (e.reference r) (forked_of c)
 given_of (v.Recv1 a) = v.Recv1 (access_of a)
 given_of (v.Send a x q) = v.Send (target_of a) (e.value x) (e.proof q)
-given_of (v.Left a q) = v.Left (target_of a) (e.proof q)
-given_of (v.Right a q) = v.Right (target_of a) (e.proof q)
+given_of (v.Choose i a q) = v.Choose i (target_of a) (e.proof q)
 
 abbrev pub given_words : ℕ → Given → List Token
 given_words d (v.Term x) = words (o.term x)
@@ -158,8 +158,7 @@ given_words d (v.Call c) = called_words c
 given_words d (v.Fork r c) = word_of w.Fork ∷ words (o.reference r) ++ forked_words d c
 given_words d (v.Recv1 a) = word_of w.Recv1 ∷ access_words a
 given_words d (v.Send a x q) = word_of w.Send ∷ target_words a ++ (words (o.value x) ++ words (o.proof q))
-given_words d (v.Left a q) = word_of w.Left ∷ target_words a ++ words (o.proof q)
-given_words d (v.Right a q) = word_of w.Right ∷ target_words a ++ words (o.proof q)
+given_words d (v.Choose i a q) = words (s.chosen i) ++ (target_words a ++ words (o.proof q))
 
 module _ (l : Levels) where
   -- what begins with a name is a call or a term
@@ -246,12 +245,46 @@ module _ (l : Levels) where
 given_term_kept : (d : ℕ) → Kept given_term given_of (given_words d)
 given_term_kept d = record { again = λ l y ts proper has. given_again l d y ts proper (by_given l y ts has) }
 
+-- the words of a choice behind `#`, for each number
+abbrev choice_words : Given → List Token
+choice_words (v.Choose i a q) = number_token i ∷ target_words a ++ words (o.proof q)
+choice_words _ = []
+
+hash_choice : (d i : ℕ) (a : Target) (q : Proof) → given_words d (v.Choose (suc (suc i)) a q) ≡ word_of w.Hash ∷ choice_words (v.Choose (suc (suc i)) a q)
+unfolding s.chosen spelling
+hash_choice d i a q = rw (not_zero i, not_one i) refl
+
+numbered_choice_kept : Kept numbered_choice given_of choice_words
+unfolding numbered_choice
+numbered_choice_kept = kept_seq arm_number_kept (kept_two target_kept proof_kept) (λ i p. refl) (λ i p. refl)
+
+module _ (l : Levels) where
+  -- by `left` or `right`, or by a number that is neither 0 nor 1
+  abbrev IsChosen : ℕ → Given → Type 0
+  IsChosen d y =
+      Written l (word w.Left ▷ g.seq (v.Choose 0) target proof) y
+      ⊎ (Written l (word w.Right ▷ g.seq (v.Choose 1) target proof) y ⊎ (given_words d y ≡ word_of w.Hash ∷ choice_words y))
+
+  by_choice : (d i : ℕ) (y : Given) (a : Target) (q : Proof) → y ≡ v.Choose i a q → Written l (g.seq (v.Choose i) target proof) y → IsChosen d y
+  by_choice d zero y a q is at = inl (written_behind l w.Left (g.seq (v.Choose 0) target proof) y at)
+  by_choice d (suc zero) y a q is at = inr (inl (written_behind l w.Right (g.seq (v.Choose 1) target proof) y at))
+  by_choice d (suc (suc i)) y a q is at = inr (inr (subst (λ (y : Given). given_words d y ≡ word_of w.Hash ∷ choice_words y) (sym is) (hash_choice d i a q)))
+
+  chosen : (d : ℕ) (y : Given) (ts : List Token) → AreTokens ts → Has l (word w.Hash ▷ numbered_choice) y ts → IsChosen d y
+  unfolding numbered_choice
+  chosen d y ts proper has =
+      let n = has.7 in
+      let p = n.7 in
+      let is = has.4 ∙ n.4 ∙ ap (λ (p : Target × Proof). v.Choose n.0 p.0 p.1) p.4 in
+      let back = tokens_back n.2 n.3 (subst AreTokens n.5 (tokens_back has.2 has.3 (subst AreTokens has.5 proper))) in
+      by_choice d n.0 y p.0 p.1 is (n.3, back, (p.0, p.1, p.2, p.3, is, p.5, p.6, p.7))
+
 given_target_kept : (d : ℕ) → Kept given_target given_of (given_words d)
-unfolding given_target
+unfolding given_target s.chosen spelling
 given_target_kept d =
     kept_either (kept_behind_seq w.Send target_kept (kept_two value_kept proof_kept) (λ a p. refl) (λ a p. refl))
-    (kept_either (kept_behind_seq w.Left target_kept proof_kept (λ a q. refl) (λ a q. refl))
-    (kept_either (kept_behind_seq w.Right target_kept proof_kept (λ a q. refl) (λ a q. refl)) (given_term_kept d)))
+    (kept_tagged (kept_behind_seq w.Left target_kept proof_kept (λ a q. refl) (λ a q. refl)) (kept_behind_seq w.Right target_kept proof_kept (λ a q. refl) (λ a q. refl))
+    (kept_behind w.Hash {spell = λ x. word_of w.Hash ∷ choice_words x} numbered_choice_kept (λ x. refl)) (given_term_kept d) (λ l. chosen l d))
 
 given_end_kept : (d : ℕ) → Kept given_end given_of (given_words d)
 unfolding given_end

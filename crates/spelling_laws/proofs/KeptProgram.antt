@@ -21,11 +21,11 @@ use Rattle.surface_grammar.specs.declared.words.Word.TheVariants as w
 use Rattle.surface_grammar.specs.declared.parts.Named.{Named}
 use Rattle.surface_grammar.specs.declared.parts.Names.{Names}
 use Rattle.surface_grammar.specs.Words.{spelling}
-use Rattle.surface_grammar.specs.Grammar.{cover}
-use Rattle.surface_grammar.specs.Declarations.{then_ref, two_refs, branch, equation, alternatives, choice, pbody, names_to_paren, proto_params, proto, params, func_params, func, decl, decls, program}
+use Rattle.surface_grammar.specs.Grammar.{cover, more_arms_than_two}
+use Rattle.surface_grammar.specs.Declarations.{then_ref, two_refs, branch, equation, next_ref, more_refs, alternatives, choice, pbody, names_to_paren, proto_params, proto, params, func_params, func, decl, decls, program}
 use Rattle.spelling_cuts.specs.Words.{words}
 use Rattle.spelling_laws.proofs.WordTokens.{word_of}
-use Rattle.spelling_laws.proofs.Kept.{words-append, Kept, word_kept, kept_pure, kept_seq, kept_two, kept_either, kept_many, kept_spanned, kept_nest, kept_map, kept_behind, kept_before, kept_behind_seq, kept_behind_map, kept_listed, kept_parens, parens_words}
+use Rattle.spelling_laws.proofs.Kept.{words-append, Kept, kept_more_than_one, word_kept, kept_pure, kept_two, kept_either, kept_many, kept_spanned, kept_nest, kept_map, kept_behind, kept_before, kept_behind_seq, kept_behind_map, kept_listed, kept_parens, parens_words}
 use Rattle.spelling_laws.proofs.KeptTerms.{named, names_of, name_token, name_kept, names_kept, bound_behind_kept, reference_kept}
 use Rattle.spelling_laws.proofs.KeptResources.{res_kept, param_kept}
 use Rattle.spelling_laws.proofs.KeptParts.{one_block_kept}
@@ -56,15 +56,19 @@ equation_kept =
     (kept_either (kept_map (word_kept w.Close) (λ x. refl) (λ x. refl))
     (kept_either (kept_map (word_kept w.Wait) (λ x. refl) (λ x. refl)) (kept_behind_seq w.If at_most_kept two_refs_kept (λ c r. refl) (λ c r. branch_words c.0 c.1 r.0 r.1)))))
 
-alternatives_kept : Kept alternatives (λ (r : Ref × Ref). (e.reference r.0, e.reference r.1)) (λ (r : Ref × Ref). words (p.alternatives r.0 r.1))
-unfolding alternatives p.alternatives spelling
-alternatives_kept =
-    kept_seq reference_kept (kept_behind w.Bar {spell = λ r. word_of w.Bar ∷ words (o.reference r)} reference_kept (λ r. refl)) (λ x y. refl)
-    (λ x y. words-append (o.reference x) (space ∷ mark (codes "|") ∷ space ∷ o.reference y))
+next_ref_kept : Kept next_ref e.reference (λ r. word_of w.Bar ∷ words (o.reference r))
+unfolding next_ref
+next_ref_kept = kept_behind w.Bar reference_kept (λ r. refl)
 
-choice_kept : Kept choice (λ (c : Named × (Ref × Ref)). (named c.0, (e.reference c.1.0, e.reference c.1.1))) (λ (c : Named × (Ref × Ref)). name_token c.0.name ∷ word_of w.Of ∷ words (p.alternatives c.1.0 c.1.1))
+alternatives_kept : Kept alternatives (map e.reference) (λ rs. words (p.alternatives rs))
+unfolding alternatives more_refs p.alternatives p.refs_behind spelling
+alternatives_kept =
+    kept_more_than_one more_arms_than_two (w.Bar ∷ []) (λ rs. words (p.refs_behind rs)) reference_kept next_ref_kept refl
+    (λ r rs. words-append (space ∷ mark (codes "|") ∷ space ∷ o.reference r) (p.refs_behind rs)) (λ r rs. words-append (o.reference r) (p.refs_behind rs))
+
+choice_kept : Kept choice (λ (c : Named × List Ref). (named c.0, map e.reference c.1)) (λ (c : Named × List Ref). name_token c.0.name ∷ word_of w.Of ∷ words (p.alternatives c.1))
 unfolding choice
-choice_kept = kept_two name_kept (kept_behind w.Of {spell = λ (r : Ref × Ref). word_of w.Of ∷ words (p.alternatives r.0 r.1)} alternatives_kept (λ r. refl))
+choice_kept = kept_two name_kept (kept_behind w.Of {spell = λ rs. word_of w.Of ∷ words (p.alternatives rs)} alternatives_kept (λ rs. refl))
 
 body_kept : Kept pbody e.pbody (λ x. words (p.pbody x))
 unfolding pbody p.pbody spelling

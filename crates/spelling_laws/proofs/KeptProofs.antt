@@ -1,7 +1,7 @@
 -- Certificates and proofs are derived by their canonical words again: a divisor 1 and empty lists are not written.
 use Rattle.std.proofs.Common.{◌≡◌, ℕ, ◌==◌, inl, inr, Bool, true, false, if◌then◌else◌, List, [], ◌∷◌, ◌++◌, map, codes, Option, Some, None, refl, sym, ◌∙◌, ap, ap₂, subst, append-nil, append_assoc}
 use Rattle.std.proofs.lemmas.Bool.{eqb-true, both_ways}
-use Rattle.chan_syntax.specs.declared.identifiers.Span.{Span}
+use Rattle.chan_base.specs.declared.spans.Span.{Span}
 use Rattle.chan_syntax.specs.declared.operands.WrittenMention.{WrittenMention}
 use Rattle.chan_syntax.specs.declared.operands.WrittenCert.{WrittenCert}
 use Rattle.text_tokens.specs.Text.{Piece, Token}

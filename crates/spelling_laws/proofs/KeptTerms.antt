@@ -1,8 +1,7 @@
 -- Terms, resources and what they are made of are derived by their canonical words again.
-use Rattle.std.proofs.Common.{◌≡◌, ℕ, ◌≤◌, nat_le, inl, inr, Bool, true, false, if◌then◌else◌, pos, List, [], ◌∷◌, ◌++◌, map, codes, decimal, Option, Some, None, option_map, refl, sym, ◌∙◌, ap, subst, append-nil, append_assoc, arith}
+use Rattle.std.proofs.Common.{◌≡◌, ℕ, ◌≤◌, ◌==◌, nat_le, int_lt, pos, unsigned_abs, inl, inr, Bool, true, false, if◌then◌else◌, List, [], ◌∷◌, ◌++◌, map, codes, decimal, Option, Some, None, option_map, refl, sym, ◌∙◌, ap, subst, append-nil, append_assoc, arith}
 use Rattle.std.proofs.lemmas.Grind.{common_steps}
-use Rattle.std.specs.Ordering.{int_eq}
-use Rattle.std.proofs.lemmas.Bool.Decides.{Decides-int_eq}
+use Rattle.std.proofs.lemmas.Bool.{eqb-true, eq-eqb}
 use Rattle.chan_syntax.specs.declared.linear.Part.{Part}
 use Rattle.chan_syntax.specs.declared.linear.Term.{Term}
 use Rattle.chan_syntax.specs.declared.linear.Relation.{Relation}
@@ -23,11 +22,11 @@ use Rattle.surface_grammar.specs.declared.parts.Named.{Named}
 use Rattle.surface_grammar.specs.declared.parts.Names.{Names}
 use Rattle.surface_grammar.specs.declared.parts.Digits.{Digits}
 use Rattle.surface_grammar.specs.Words.{spelling, code, name_code, number_code}
-use Rattle.surface_grammar.specs.Grammar.{cover, word, ◌◁◌, ◌⇒◌, number_of, name, number, names, parted}
+use Rattle.surface_grammar.specs.Grammar.{cover, word, ◌◁◌, ◌⇒◌, number_of, name, number, arm_number, the_number, names, parted}
 use Rattle.surface_grammar.specs.Terms.{part_of, times, number_prod, prod, minus_prod, first_part, next_part, more_parts, term, terms, one_term, two_terms, term_and_number, relation, limit, limits, limits_to_bracket, binds, bound, dual, args, reference}
 use Rattle.spelling_cuts.specs.Words.{bare, words, AreTokens}
-use Rattle.spelling_laws.proofs.WordTokens.{word_of, code_at, is_name, decimal_is_token}
-use Rattle.spelling_laws.proofs.Kept.{words-append, Again, Levels, Has, Kept, Any, one_again, word_kept, kept_when, kept_pure, kept_seq, kept_two, kept_either, kept_many, kept_spanned, kept_nest, kept_map, kept_behind_when, kept_before, kept_behind_map, kept_listed, any_seq, any_nest, parens_words, brackets_words, kept_pair, kept_parens}
+use Rattle.spelling_laws.proofs.WordTokens.{word_of, code_at, is_name, is_number, decimal_is_token}
+use Rattle.spelling_laws.proofs.Kept.{words-append, Again, again_by, Levels, Has, Kept, Any, one_again, word_kept, kept_when, kept_pure, kept_seq, kept_two, kept_either, kept_many, kept_spanned, kept_nest, kept_map, kept_behind_when, kept_before, kept_behind_map, kept_listed, any_seq, any_nest, parens_words, brackets_words, kept_pair, kept_parens}
 
 -- ---- names and numbers
 
@@ -64,8 +63,14 @@ name_kept =
           (λ u s. let at = name_at u y.name s in (at.0, refl, ap (λ (n : List ℕ). record { name = n; span = e.nowhere }) at.1));
     }
 
-within_limit : (n : ℕ) → nat_le n largest ≡ true → n ≤ largest
-within_limit n e = grind (arith, common_steps)
+number_at : (u : Token) (n : ℕ) → bare u ≡ number_token n → (code u ≡ number_code) × (number_of u.kind ≡ n)
+number_at u n s =
+    let kind = ap (λ (t : Token). t.kind) s in
+    (code_at u (Number n) (decimal n) kind (ap (λ (t : Token). t.text) s), ap number_of kind)
+
+-- the canonical token of the number of a token
+numeral : (t : Token) (n : ℕ) → IsToken t.kind t.text → code t ≡ number_code → number_of t.kind ≡ n → IsToken (Number n) (decimal n)
+numeral t n is number same = decimal_is_token n (subst (λ (n : ℕ). n ≤ largest) same (subst (λ k. IsToken k t.text) (is_number t number) is).1)
 
 pub number_kept : Kept number digits (λ d. number_token d.value ∷ [])
 unfolding number
@@ -73,16 +78,31 @@ number_kept =
     record {
       again = λ l y ts proper d.
           let value : y.value ≡ number_of d.0.kind = ap (λ (x : Digits). x.value) d.4 in
-          let within : nat_le y.value largest ≡ true = ap (λ (n : ℕ). nat_le n largest) value ∙ d.3 in
           one_again l number_code (λ t. nat_le (number_of t.kind) largest) (λ t. record { value = number_of t.kind; span = t.span }) digits y (number_token y.value)
-          (decimal_is_token y.value (within_limit y.value within))
+          (numeral d.0 y.value (subst AreTokens d.1 proper).0 d.2 (sym value))
           (λ u s.
-          let kind = ap (λ (t : Token). t.kind) s in
-          let number = ap number_of kind in (
-            code_at u (Number y.value) (decimal y.value) kind (ap (λ (t : Token). t.text) s),
-            ap (λ (n : ℕ). nat_le n largest) number ∙ within,
-            ap (λ (n : ℕ). record { value = n; span = e.nowhere }) number,
-          ));
+          let at = number_at u y.value s in
+          (at.0, ap (λ (n : ℕ). nat_le n largest) (at.1 ∙ value) ∙ d.3, ap (λ (n : ℕ). record { value = n; span = e.nowhere }) at.1));
+    }
+
+pub arm_number_kept : Kept arm_number (λ i. i) (λ i. number_token i ∷ [])
+unfolding arm_number
+arm_number_kept =
+    record {
+      again = λ l y ts proper d.
+          one_again l number_code (λ t. nat_le (number_of t.kind) 15) (λ t. number_of t.kind) (λ i. i) y (number_token y)
+          (numeral d.0 y (subst AreTokens d.1 proper).0 d.2 (sym d.4))
+          (λ u s. let at = number_at u y s in (at.0, ap (λ (n : ℕ). nat_le n 15) (at.1 ∙ d.4) ∙ d.3, at.1));
+    }
+
+pub the_number_kept : (i : ℕ) → Kept (the_number i) (λ x. x) (λ x. number_token i ∷ [])
+unfolding the_number
+the_number_kept i =
+    record {
+      again = λ l y ts proper d.
+          one_again l number_code (λ t. number_of t.kind == i) (λ t. tt {0}) (λ x. x) y (number_token i)
+          (numeral d.0 i (subst AreTokens d.1 proper).0 d.2 (eqb-true (number_of d.0.kind) i d.3))
+          (λ u s. let at = number_at u i s in (at.0, eq-eqb (number_of u.kind) i at.1, sym d.4));
     }
 
 same_names : (ns : List Named) → names_of (parted ns) ≡ parted (map named ns)
@@ -121,10 +141,10 @@ times_kept = kept_either (kept_behind_map w.Star name_kept (λ n. refl) (λ n. r
 
 -- the words of a factor and a name behind it, a factor 1 too
 abbrev full : Part → List Token
-full p = words (s.integer p.factor) ++ times_words p.name
+full p = number_token (unsigned_abs p.factor) ∷ times_words p.name
 
 number_prod_kept : Kept number_prod e.part full
-unfolding number_prod s.integer
+unfolding number_prod
 number_prod_kept = kept_seq number_kept times_kept same is
   where
     same : (d : Digits) (n : Option Named) → e.part (part_of d.value n) ≡ part_of d.value (option_map named n)
@@ -136,7 +156,7 @@ number_prod_kept = kept_seq number_kept times_kept same is
     is d (Some n) = refl
 
 abbrev product_words : Part → List Token
-product_words p = words (s.product p.factor p.name)
+product_words p = words (s.product (unsigned_abs p.factor) p.name)
 
 name_prod_kept : Kept (name ⇒ (λ n. part_of 1 (Some n))) e.part product_words
 unfolding s.product
@@ -145,11 +165,11 @@ name_prod_kept = kept_map name_kept (λ n. refl) (λ n. refl)
 module _ (l : Levels) where
   by_number_prod : (y : Part) (ws : List Token) → Again (Has l number_prod) e.part y ws → Again (Has l prod) e.part y ws
   unfolding prod
-  by_number_prod y ws a = (a.0, λ us s. let i = a.1 us s in (i.0, i.1, inl i.2))
+  by_number_prod y ws a = again_by (λ z us i. inl i) a
 
   by_name_prod : (y : Part) (ws : List Token) → Again (Has l (name ⇒ (λ n. part_of 1 (Some n)))) e.part y ws → Again (Has l prod) e.part y ws
   unfolding prod
-  by_name_prod y ws a = (a.0, λ us s. let i = a.1 us s in (i.0, i.1, inr i.2))
+  by_name_prod y ws a = again_by (λ z us i. inr i) a
 
   a_named : (m : Named) → Has l name m (record { kind = Name; text = m.name; span = m.span } ∷ [])
   unfolding name
@@ -163,19 +183,17 @@ module _ (l : Levels) where
       by_name_prod (part_of 1 (Some m)) (name_token m.name ∷ [])
       (name_prod_kept.again l (part_of 1 (Some m)) (t ∷ []) (is, tt) (m, tt, t ∷ [], [], refl, refl, a_named m, (refl, refl)))
 
-  by_factor : (v : ℕ) (m : Named) → Again (Has l number_prod) e.part (part_of v (Some m)) (full (part_of v (Some m))) → (b : Bool) → int_eq (pos v) (pos 1) ≡ b
-      → Again (Has l prod) e.part (part_of v (Some m)) (words (if b then a_name m.name else s.integer (pos v) ++ mark (codes "*") ∷ name_piece m.name ∷ []))
-  unfolding spelling s.integer
+  by_factor : (v : ℕ) (m : Named) → Again (Has l number_prod) e.part (part_of v (Some m)) (full (part_of v (Some m))) → (b : Bool) → (v == 1) ≡ b
+      → Again (Has l prod) e.part (part_of v (Some m)) (words (if b then a_name m.name else number_piece v ∷ mark (codes "*") ∷ name_piece m.name ∷ []))
+  unfolding spelling
   by_factor v m a true one =
-      let same = (Decides-int_eq (pos v) (pos 1)).0 one in
-      let is : v ≡ 1 = cc in
-      subst (λ (v : ℕ). Again (Has l prod) e.part (part_of v (Some m)) (name_token m.name ∷ [])) (sym is) (without_factor m a.0.1.1.0)
+      subst (λ (v : ℕ). Again (Has l prod) e.part (part_of v (Some m)) (name_token m.name ∷ [])) (sym (eqb-true v 1 one)) (without_factor m a.0.1.1.0)
   by_factor v m a false other = by_number_prod (part_of v (Some m)) (full (part_of v (Some m))) a
 
   with_factor : (v : ℕ) (n : Option Named) → Again (Has l number_prod) e.part (part_of v n) (full (part_of v n)) → Again (Has l prod) e.part (part_of v n) (product_words (part_of v n))
-  unfolding s.product s.integer
+  unfolding s.product
   with_factor v None a = by_number_prod (part_of v None) (full (part_of v None)) a
-  with_factor v (Some m) a = by_factor v m a (int_eq (pos v) (pos 1)) refl
+  with_factor v (Some m) a = by_factor v m a (v == 1) refl
 
   from_number : (y : Part) (ts : List Token) → AreTokens ts → Has l number_prod y ts → Again (Has l prod) e.part y (product_words y)
   unfolding number_prod
@@ -189,35 +207,38 @@ module _ (l : Levels) where
   from_prod y ts proper (inl d) = from_number y ts proper d
   from_prod y ts proper (inr d) = by_name_prod y (product_words y) (name_prod_kept.again l y ts proper d)
 
-  -- a product is no part with a sign
-  no_sign_of_number : (y : Part) (ts : List Token) → Has l number_prod y ts → y.negative ≡ false
-  unfolding number_prod
-  no_sign_of_number y ts d = ap (λ (p : Part). p.negative) d.4 ∙ by_name d.0.value d.1
-    where
-      by_name : (v : ℕ) (n : Option Named) → (part_of v n).negative ≡ false
-      by_name v None = refl
-      by_name v (Some n) = refl
+  not_negative : (v : ℕ) → int_lt (pos v) (pos 0) ≡ false
+  not_negative v = grind (arith, common_steps)
 
-  no_sign : (y : Part) (ts : List Token) → Has l prod y ts → y.negative ≡ false
-  unfolding prod
-  no_sign y ts (inl d) = no_sign_of_number y ts d
-  no_sign y ts (inr d) = ap (λ (p : Part). p.negative) d.4
+  -- a product has no minus
+  no_minus_of_number : (y : Part) (ts : List Token) → Has l number_prod y ts → s.has_minus y ≡ false
+  unfolding number_prod s.has_minus
+  no_minus_of_number y ts d = ap s.has_minus d.4 ∙ by_name d.0.value d.1
+    where
+      by_name : (v : ℕ) (n : Option Named) → s.has_minus (part_of v n) ≡ false
+      by_name v None = not_negative v
+      by_name v (Some n) = not_negative v
+
+  no_minus : (y : Part) (ts : List Token) → Has l prod y ts → s.has_minus y ≡ false
+  unfolding prod s.has_minus
+  no_minus y ts (inl d) = no_minus_of_number y ts d
+  no_minus y ts (inr d) = ap s.has_minus d.4
 
 prod_kept : Kept prod e.part product_words
 prod_kept = record { again = from_prod }
 
-positive : (y : Part) → Any prod y → y.negative ≡ false
-positive y some = no_sign some.0 y some.1 some.3
+positive : (y : Part) → Any prod y → s.has_minus y ≡ false
+positive y some = no_minus some.0 y some.1 some.3
 
 minus_first_kept : Kept minus_prod e.part (λ p. words (s.first_part p))
-unfolding minus_prod s.first_part spelling
+unfolding minus_prod s.has_minus s.first_part spelling
 minus_first_kept = kept_behind_map w.Minus prod_kept (λ p. refl) (λ p. refl)
 
 minus_next_kept : Kept minus_prod e.part (λ p. words (s.next_part p))
-unfolding minus_prod s.next_part spelling
+unfolding minus_prod s.has_minus s.next_part spelling
 minus_next_kept = kept_behind_map w.Minus prod_kept (λ p. refl) (λ p. refl)
 
-first_of_product : (b : Bool) (ps : List Piece) → b ≡ false → words (if b then mark (codes "-") ∷ ps else ps) ≡ words ps
+first_of_product : (b : Bool) (ps : List Piece) → b ≡ false → words ((if b then mark (codes "-") ∷ [] else []) ++ ps) ≡ words ps
 first_of_product true ps none = cc
 first_of_product false ps none = refl
 
@@ -225,7 +246,7 @@ first_kept : Kept first_part e.part (λ p. words (s.first_part p))
 unfolding first_part s.first_part
 first_kept =
     kept_either minus_first_kept
-    (kept_when prod_kept (λ l y ts proper d. first_of_product y.negative (s.product y.factor y.name) (positive y (l, ts, proper, d))))
+    (kept_when prod_kept (λ l y ts proper d. first_of_product (s.has_minus y) (s.product (unsigned_abs y.factor) y.name) (positive y (l, ts, proper, d))))
 
 plus_of_product : (b : Bool) (ps : List Piece) → b ≡ false → words (space ∷ (if b then mark (codes "-") else mark (codes "+")) ∷ space ∷ ps) ≡ word_of w.Plus ∷ words ps
 unfolding spelling
@@ -235,7 +256,7 @@ plus_of_product false ps none = refl
 next_kept : Kept next_part e.part (λ p. words (s.next_part p))
 unfolding next_part s.next_part
 next_kept =
-    kept_either (kept_behind_when w.Plus prod_kept (λ y some. plus_of_product y.negative (s.product y.factor y.name) (positive y some))) minus_next_kept
+    kept_either (kept_behind_when w.Plus prod_kept (λ y some. plus_of_product (s.has_minus y) (s.product (unsigned_abs y.factor) y.name) (positive y some))) minus_next_kept
 
 pub more_parts_kept : Kept more_parts (map e.part) (λ ps. words (s.more_parts ps))
 unfolding more_parts s.more_parts

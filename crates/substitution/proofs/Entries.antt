@@ -51,7 +51,7 @@ sums_fit x (e ∷ es) h = pick (is_at (slice_cmp nat_cmp x) e.0) (and_both (fits
     pick false f g = g
 
 -- a key below all others isn't among them
-absent : (x : Ident) (es : List (Ident × Summand)) → AllByRecursion (λ y. slice_cmp nat_cmp x y ≡ Less) (keys_of es) → lookup (is_at (slice_cmp nat_cmp x)) es ≡ None
+pub absent : (x : Ident) (es : List (Ident × Summand)) → AllByRecursion (λ y. slice_cmp nat_cmp x y ≡ Less) (keys_of es) → lookup (is_at (slice_cmp nat_cmp x)) es ≡ None
 absent x [] h = refl
 absent x (e ∷ es) h = ap (λ o. cond (is_eq o) (Some e.1) (lookup (is_at (slice_cmp nat_cmp x)) es)) h.0 ∙ absent x es h.1
 

@@ -3,7 +3,7 @@ use Rattle.std.proofs.Common.{◌≡◌, ℕ, List, [], ◌∷◌, ◌++◌, All
 use Rattle.std.proofs.lemmas.List.Elements.{All-head}
 use Rattle.core_language.specs.Names.{Ident}
 use Rattle.core_language.specs.Terms.{Term}
-use Rattle.core_language.specs.Resources.{Ref, Shape, Res, Int, End, Pair, Sum}
+use Rattle.core_language.specs.Resources.{Ref, Shape, Res, Int, End, Pair}
 use Rattle.chan_syntax.specs.Reading.{res_of}
 use Rattle.chan_syntax.specs.declared.resources.Res.{Res as Tree}
 use Rattle.linear_forms.specs.Terms.{IntVar}
@@ -22,11 +22,6 @@ pub record IsOfTwo (x : Shape) (a b : Res) : Type 0 where
 pub pair_of_two : (x : Shape) (a b : Res) → x ≡ Pair a b → IsOfTwo x a b
 pair_of_two x a b is =
     let it : IsOfTwo (Pair a b) a b = record { terms = λ binders. refl; first_short = λ most h. h.0; second_short = λ most h. h.1 } in
-    subst (λ (y : Shape). IsOfTwo y a b) (sym is) it
-
-pub sum_of_two : (x : Shape) (a b : Res) → x ≡ Sum a b → IsOfTwo x a b
-sum_of_two x a b is =
-    let it : IsOfTwo (Sum a b) a b = record { terms = λ binders. refl; first_short = λ most h. h.0; second_short = λ most h. h.1 } in
     subst (λ (y : Shape). IsOfTwo y a b) (sym is) it
 
 module _ (most : ℕ) (put : List IntVar) (before after : List Ident) (x : Shape) (a b : Res) (two : IsOfTwo x a b) where
@@ -75,8 +70,3 @@ module _ (N : OnNames) (T : OnTerms) (before after : List Ident) (x y : Shape) (
   pair_like left right first second =
       let it : IsShapeLike N T before after (Pair a b) (Pair c d) = (first, second) in
       subst (λ (z : Shape). IsShapeLike N T before after x z) (sym right) (subst (λ (z : Shape). IsShapeLike N T before after z (Pair c d)) (sym left) it)
-
-  pub sum_like : x ≡ Sum a b → y ≡ Sum c d → IsResLike N T before after a c → IsResLike N T before after b d → IsShapeLike N T before after x y
-  sum_like left right first second =
-      let it : IsShapeLike N T before after (Sum a b) (Sum c d) = (first, second) in
-      subst (λ (z : Shape). IsShapeLike N T before after x z) (sym right) (subst (λ (z : Shape). IsShapeLike N T before after z (Sum c d)) (sym left) it)

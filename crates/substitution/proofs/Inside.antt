@@ -1,17 +1,29 @@
 -- A resource under the binders around it, and what is inside under its own as well.
-use Rattle.std.proofs.Common.{◌≡◌, ℕ, List, ◌++◌, All, flat_map, length, sym, ◌∙◌, ap, subst}
-use Rattle.std.proofs.lemmas.List.{map-append, length-map}
+use Rattle.std.proofs.Common.{◌≡◌, ℕ, ◌≤◌, List, ◌++◌, All, flat_map, length, take, sym, ◌∙◌, ap, subst, arith}
+use Rattle.std.proofs.lemmas.List.{map-append, length-map, length-append, take_at}
 use Rattle.core_language.specs.Names.{Ident}
 use Rattle.core_language.specs.Terms.{Bound}
-use Rattle.core_language.specs.Resources.{Shape, Binds}
+use Rattle.core_language.specs.Resources.{Shape, Res, Binds}
 use Rattle.linear_forms.specs.Terms.{IntVar}
-use Rattle.linear_forms.specs.Substitution.{Scoped, scoped, puts, terms_of_limit, terms_of_shape, terms_of_res, Fits, AllFit}
-use Rattle.linear_forms.specs.Replacing.{IsShortLimit, ArePutShort, AreSafe, IsReadyLimit, FitsLimit}
+use Rattle.linear_forms.specs.Substitution.{Scoped, scoped, puts, terms_of_limit, terms_of_shape, terms_of_res, Fits, AllFit, Each, IsRenamed, IsNormalPut, IsLimitLike, IsShapeLike, IsResLike}
+use Rattle.linear_forms.specs.Replacing.{IsShortLimit, IsShortRes, ArePutShort, AreSafe, IsLonger, IsReadyLimit, FitsLimit}
 use Rattle.linear_forms.proofs.Places.{safe_for}
 use Rattle.linear_forms.proofs.Rebuilt.{none_left, none_right, safe_join, ready_limits, fit_limits}
+use Rattle.linear_forms.proofs.NewNames.{all_renamed}
 use Rattle.linear_forms.proofs.Shorts.{all_left, all_right}
 use Rattle.substitution.specs.declared.scope.Binder.{Binder}
 use Rattle.substitution.specs.Scopes.{before_of, after_of}
+
+-- the scope inside begins with the resource's own binders
+module _ (scope group joined : List Binder) (b : Bound) (names : before_of group ≡ b.names) (all : joined ≡ group ++ scope) where
+  as_many : length group ≡ length b.names
+  as_many = sym (length-map group (λ (x : Binder). x.name)) ∙ ap length names
+
+  pub held_by_joined : length b.names ≤ length joined
+  held_by_joined = rw all (omega (arith, as_many, length-append group scope))
+
+  pub made_of_group : after_of (take (length b.names) joined) ≡ after_of group
+  made_of_group = ap after_of (ap (take (length b.names)) all ∙ take_at group scope (length b.names) as_many)
 
 module _ (most : ℕ) (put : List IntVar) (scope group joined : List Binder) (b : Bound) (s : Shape) (names : before_of group ≡ b.names) (all : joined ≡ group ++ scope) where
   abbrev whole : List Scoped
@@ -60,3 +72,19 @@ module _ (most : ℕ) (put : List IntVar) (scope group joined : List Binder) (b 
   shape_too_large none fit =
       let outer = b.names ++ before_of scope in
       none (subst (λ (l : List Ident). AllFit put (terms_of_shape l s)) inner (all_right (λ (t : Scoped). Fits put t.binders t.term) (in_limits outer) (terms_of_shape outer s) fit))
+
+  -- the resource with its parts put in, whose binders are those of the group
+  pub res_like : (c : Bound) (t : Shape) → c.names ≡ after_of group → AllSafe → IsShortRes most (Binds b s) → ArePutShort most put → Each (IsLonger most put (before_of scope) (Binds b s)) b.names (after_of group)
+      → Each (IsLimitLike (IsNormalPut put) (before_of joined) (after_of joined)) b.limits c.limits → IsShapeLike (IsRenamed put) (IsNormalPut put) (before_of joined) (after_of joined) s t
+      → IsResLike (IsRenamed put) (IsNormalPut put) (before_of scope) (after_of scope) (Binds b s) (Binds c t)
+  res_like c t made safe short put_short longer limits shape = (
+    subst (λ (l : List Ident). Each (IsRenamed put (before_of scope) (l ++ after_of scope) (Binds b s)) b.names l) (sym made)
+        (all_renamed most put whole (before_of scope) (Binds b s) (before_of joined) b.names (after_of group) (after_of scope) (subst (λ (l : List Ident). AreSafe most put whole 0 (before_of joined) l) after safe) short put_short longer),
+    subst (λ (l : List Ident). Each (IsLimitLike (IsNormalPut put) l (c.names ++ after_of scope)) b.limits c.limits) (sym inner)
+        (subst (λ (l : List Ident). Each (IsLimitLike (IsNormalPut put) (before_of joined) l) b.limits c.limits) outer limits),
+    subst (λ (l : List Ident). IsShapeLike (IsRenamed put) (IsNormalPut put) l (c.names ++ after_of scope) s t) (sym inner)
+        (subst (λ (l : List Ident). IsShapeLike (IsRenamed put) (IsNormalPut put) (before_of joined) l s t) outer shape),
+  )
+    where
+      outer : after_of joined ≡ c.names ++ after_of scope
+      outer = after ∙ ap (λ l. l ++ after_of scope) (sym made)

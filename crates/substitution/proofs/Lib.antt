@@ -1,5 +1,7 @@
 pub mod Lookups
 pub mod Added
+mod Tokens
+pub mod Pieces
 pub mod Lists
 pub mod ReadyTerms
 pub mod Entries
@@ -7,4 +9,4 @@ pub mod EachNext
 pub mod Groups
 pub mod Inside
 pub mod Forms
-pub mod Shapes
+pub mod Listed

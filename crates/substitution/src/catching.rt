@@ -103,12 +103,26 @@ fn shape_puts(
             let in_second = catches(alloc, scope, put, second.get(), name)?;
             Ok(in_first || in_second)
         }
-        Shape::Sum(left, right) => {
-            let in_left = catches(alloc, scope, put, left.get(), name)?;
-            let in_right = catches(alloc, scope, put, right.get(), name)?;
-            Ok(in_left || in_right)
+        Shape::Sum(arms) => resources_put(alloc, scope, put, arms.as_slice(), name),
+    }
+}
+
+#[cycle(catching)]
+fn resources_put(
+    alloc: Global,
+    scope: &Scope,
+    put: &[Put],
+    resources: &[Res],
+    name: &Ident,
+) -> Result<bool, Memory>
+    ensures { IfOk result (λ caught. caught ≡ list_any (puts (map put_in put.now) name.now) (flat_map (terms_of_res (before_of scope.now)) (map res_of resources.now))) }
+{
+    for resource in resources {
+        if catches(alloc, scope, put, resource, name)? {
+            return Ok(true);
         }
     }
+    Ok(false)
 }
 
 /// Whether a term that is put in within the resource names the name.

@@ -78,8 +78,20 @@ fn with_shape(most: usize, shape: &Shape) -> usize
         Shape::Int(term) => with_term(most, term),
         Shape::End(end) => with_terms(most, end.args.as_slice()),
         Shape::Pair(first, second) => with_res(with_res(most, first.get()), second.get()),
-        Shape::Sum(left, right) => with_res(with_res(most, left.get()), right.get()),
+        Shape::Sum(arms) => with_resources(most, arms.as_slice()),
     }
+}
+
+#[cycle(lengths)]
+fn with_resources(most: usize, resources: &[Res]) -> usize
+    ensures more { most ≤ result }
+    ensures short { All (IsShortRes result) (map res_of resources.now) }
+{
+    let mut longest = most;
+    for resource in resources {
+        longest = with_res(longest, resource);
+    }
+    longest
 }
 
 /// At least so much, and no name of the resource is longer.

@@ -12,6 +12,3 @@ mod summands;
 
 pub use faults::SubstFault;
 pub use substituting::{subst, subst_terms};
-
-#[cfg(test)]
-mod tests;

@@ -1,10 +1,11 @@
 //! Terms with terms put in, in normal form.
-ghost use Rattle.std.specs.Prelude.{◌≡◌, ◌+◌, ◌≤◌, ◌<◌, ◌^◌, ◌++◌, ◌∷◌, [], ℕ, ◌*ℤ◌, unsigned_abs, map, Some, None, OnOk, IfOk, IfErr};
+ghost use Rattle.std.specs.Prelude.{◌≡◌, ◌+◌, ◌≤◌, ◌<◌, ◌^◌, ◌++◌, ◌∷◌, [], ℕ, ◌*ℤ◌, unsigned_abs, List, map, flat_map, Some, None, OnOk, IfOk, IfErr};
 ghost use Rattle.core_language.specs.Terms.{Term as Sum};
 ghost use Rattle.chan_syntax.specs.Reading.{part_of, term_of};
 ghost use Rattle.linear_forms.specs.Terms.{times_of};
 ghost use Rattle.linear_forms.specs.Replacing.{counting, scaled, replaced_name, replaced_part, replaced};
-ghost use Rattle.substitution.specs.Sums.{HasSums, IsWithin};
+ghost use Rattle.substitution.specs.Places.{Token, token_of, token_put, part_put};
+ghost use Rattle.substitution.specs.Sums.{HasSums, HasPlaces, IsWithin};
 ghost use Rattle.substitution.specs.Scopes.{put_in, before_of, after_of};
 
 use crate::scope::{Binder, Put, new_name, put_named};
@@ -19,6 +20,7 @@ fn add_part(alloc: Global, sums: &mut Summands, weight: i128, part: &Part) -> Re
     requires within { IsWithin (2 ^ 247) sums.old }
     ensures sums { OnOk result ((sum : Sum) → HasSums sums.old sum → HasSums sums.new (sum ++ counting (weight *ℤ times_of (part_of part.now)) part.now.name ∷ [])) }
     ensures within { OnOk result ((size : ℕ) → IsWithin size sums.old → IsWithin (size + 2 ^ 126) sums.new) }
+    ensures places { OnOk result ((tokens : List Token) → HasPlaces sums.old tokens → HasPlaces sums.new (tokens ++ token_of part.now)) }
 {
     match &part.name {
         Some(name) => sums.add_name(alloc, name, part.name_span, weight, part.times()),
@@ -35,6 +37,7 @@ fn add_term(alloc: Global, sums: &mut Summands, weight: i128, parts: &[Part]) ->
     requires within { IsWithin (2 ^ 246) sums.old }
     ensures sums { OnOk result ((sum : Sum) → HasSums sums.old sum → HasSums sums.new (sum ++ scaled weight (map part_of parts.now))) }
     ensures within { OnOk result ((size : ℕ) → IsWithin size sums.old → IsWithin (size + 2 ^ 185) sums.new) }
+    ensures places { OnOk result ((tokens : List Token) → HasPlaces sums.old tokens → HasPlaces sums.new (tokens ++ flat_map token_of parts.now)) }
 {
     for part in parts {
         add_part(alloc, sums, weight, part)?;
@@ -47,6 +50,7 @@ fn add_once(alloc: Global, sums: &mut Summands, part: &Part, name: &Ident) -> Re
     requires { IsWithin (2 ^ 246) sums.old }
     ensures sums { OnOk result ((sum : Sum) → HasSums sums.old sum → HasSums sums.new (sum ++ counting (times_of (part_of part.now)) (Some name.now) ∷ [])) }
     ensures within { OnOk result ((size : ℕ) → IsWithin size sums.old → IsWithin (size + 2 ^ 185) sums.new) }
+    ensures places { OnOk result ((tokens : List Token) → HasPlaces sums.old tokens → HasPlaces sums.new (tokens ++ record { name = name.now; place = part.now.name_span } ∷ [])) }
 {
     sums.add_name(alloc, name, part.name_span, 1, part.times())?;
     Ok(())
@@ -64,6 +68,7 @@ fn add_named(
     requires { IsWithin (2 ^ 246) sums.old }
     ensures sums { OnOk result ((sum : Sum) → HasSums sums.old sum → HasSums sums.new (sum ++ replaced_name (before_of scope.now) (after_of scope.now) (map put_in put.now) (times_of (part_of part.now)) (Some name.now))) }
     ensures within { OnOk result ((size : ℕ) → IsWithin size sums.old → IsWithin (size + 2 ^ 185) sums.new) }
+    ensures places { OnOk result ((tokens : List Token) → HasPlaces sums.old tokens → HasPlaces sums.new (tokens ++ token_put (before_of scope.now) (after_of scope.now) put.now (record { name = name.now; place = part.now.name_span }))) }
 {
     match new_name(scope, name) {
         Some(made) => add_once(alloc, sums, part, made),
@@ -84,6 +89,7 @@ fn add_replaced(
     requires { IsWithin (2 ^ 246) sums.old }
     ensures sums { OnOk result ((sum : Sum) → HasSums sums.old sum → HasSums sums.new (sum ++ replaced_part (before_of scope.now) (after_of scope.now) (map put_in put.now) (part_of part.now))) }
     ensures within { OnOk result ((size : ℕ) → IsWithin size sums.old → IsWithin (size + 2 ^ 185) sums.new) }
+    ensures places { OnOk result ((tokens : List Token) → HasPlaces sums.old tokens → HasPlaces sums.new (tokens ++ part_put (before_of scope.now) (after_of scope.now) put.now part.now)) }
 {
     match &part.name {
         Some(name) => add_named(alloc, scope, put, sums, part, name),
@@ -101,7 +107,8 @@ pub(crate) fn sums_of(
     put: &[Put],
     parts: &[Part],
 ) -> Result<Summands, Memory>
-    ensures { IfOk result (λ sums. HasSums sums (replaced (before_of scope.now) (after_of scope.now) (map put_in put.now) (map part_of parts.now))) }
+    ensures sums { IfOk result (λ sums. HasSums sums (replaced (before_of scope.now) (after_of scope.now) (map put_in put.now) (map part_of parts.now))) }
+    ensures places { IfOk result (λ sums. HasPlaces sums (flat_map (part_put (before_of scope.now) (after_of scope.now) put.now) parts.now)) }
 {
     let mut sums = Summands::new(alloc);
     for part in parts {

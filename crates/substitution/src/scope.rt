@@ -4,6 +4,7 @@ ghost use Rattle.std.specs.Option.{option_copied};
 ghost use Rattle.core_language.specs.Names.{same};
 ghost use Rattle.linear_forms.specs.Replacing as spec;
 ghost use Rattle.linear_forms.specs.Substitution.{place_of};
+ghost use Rattle.substitution.specs.Places.{puts_for};
 ghost use Rattle.substitution.specs.Scopes.{put_in, put_of, before_of, after_of};
 
 use chan_base::Memory;
@@ -59,10 +60,10 @@ pub(crate) fn put_named<'a>(put: &'a [Put], name: &Ident) -> Option<&'a Put>
     put.iter().find(|put| put.name == *name)
 }
 
-#[tactic(auto, using(crate::proofs::Lists::put_more))]
 pub(crate) fn puts_of(alloc: Global, names: &Idents, by: &Terms) -> Result<Puts, Memory>
     requires { length names.now ≡ length by.now }
-    ensures { IfOk result (λ put. map put_in put ≡ put_of names.now by.now) }
+    ensures terms { IfOk result (λ put. map put_in put ≡ put_of names.now by.now) }
+    ensures places { IfOk result (λ put. put ≡ puts_for names.now by.now) }
 {
     let mut put = Items::new(alloc);
     for index in 0..names.len() {
@@ -110,11 +111,11 @@ pub(crate) fn kept(alloc: Global, names: &Idents) -> Result<Scope, Memory>
     Ok(scope)
 }
 
-pub(crate) fn made_names(alloc: Global, scope: &Scope) -> Result<Idents, Memory>
+pub(crate) fn made_names(alloc: Global, scope: &[Binder]) -> Result<Idents, Memory>
     ensures { IfOk result (λ names. names ≡ after_of scope.now) }
 {
     let mut names = Items::new(alloc);
-    for binder in scope.as_slice() {
+    for binder in scope {
         names.push(binder.made.copy(alloc)?)?;
     }
     Ok(names)

@@ -1,16 +1,18 @@
 //! Sums as terms in normal form.
-ghost use Rattle.std.specs.Prelude.{◌≡◌, ◌++◌, true, false, List, map, Ok, IfOk, IfErr, OnOk};
+ghost use Rattle.std.specs.Prelude.{◌≡◌, ◌++◌, true, false, List, All, map, flat_map, Ok, IfOk, IfErr, OnOk};
 ghost use Rattle.std.specs.List.{list_all};
 ghost use Rattle.core_language.specs.Terms.{Term as Sum};
 ghost use Rattle.chan_syntax.specs.Reading.{part_of, term_of};
 ghost use Rattle.linear_forms.specs.Normal.{fits};
 ghost use Rattle.linear_forms.specs.NormalTerms.{Counted, IsNormal, IsSameSum, NumbersFit, signed, named_parts, spelled, counted_once, nonzero};
 ghost use Rattle.substitution.specs.declared.faults.SubstFault.TheVariants as cause;
-ghost use Rattle.substitution.specs.Sums.{HasSums, IsNumberOf, sums_in, entry_fits};
+ghost use Rattle.substitution.specs.Places.{Token, place_among};
+ghost use Rattle.substitution.specs.Sums.{HasSums, HasPlaces, IsNumberOf, IsWithNumber, sums_in, entry_fits, where_of, where_in};
 
 use crate::faults::SubstFault;
 use crate::summands::{Summand, Summands};
-use chan_syntax::{Ident, Part, Span, Term, TermParts};
+use chan_base::Span;
+use chan_syntax::{Ident, Part, Term, TermParts};
 use sqlite_items::Items;
 use std::alloc::Global;
 use std::collections::BTreeMap;
@@ -23,7 +25,8 @@ fn number(sum: &Wide) -> Result<i64, SubstFault>
 }
 
 fn part(name: Option<Ident>, name_span: Option<Span>, number: i64) -> Part
-    ensures { part_of result ≡ signed name number }
+    ensures value { part_of result ≡ signed name number }
+    ensures place { where_of result ≡ (name, name_span) }
 {
     if number < 0 && number > i64::MIN {
         return Part {
@@ -50,6 +53,7 @@ fn push_named(
 ) -> Result<(), SubstFault>
     ensures ok { OnOk result (map part_of parts.new ≡ map part_of parts.old ++ named_parts (counted_once (name.now, summand.now.sum))) }
     ensures fits { OnOk result (fits summand.now.sum ≡ true) }
+    ensures places { OnOk result (map where_of parts.new ≡ map where_of parts.old ++ where_in (name.now, summand.now)) }
     ensures err { IfErr result (λ fault. fault ≡ cause.TooLarge → fits summand.now.sum ≡ false) }
 {
     let number = number(&summand.sum)?;
@@ -63,6 +67,7 @@ fn push_named(
 fn named(alloc: Global, sums: &BTreeMap<Ident, Summand>) -> Result<TermParts, SubstFault>
     ensures ok { IfOk result (λ parts. map part_of parts ≡ named_parts (nonzero (sums_in sums.now.entries))) }
     ensures fits { OnOk result (list_all entry_fits sums.now.entries ≡ true) }
+    ensures places { IfOk result (λ parts. map where_of parts ≡ flat_map where_in sums.now.entries) }
     ensures err { IfErr result (λ fault. fault ≡ cause.TooLarge → list_all entry_fits sums.now.entries ≡ false) }
 {
     let mut parts = Items::new(alloc);
@@ -76,6 +81,7 @@ fn named(alloc: Global, sums: &BTreeMap<Ident, Summand>) -> Result<TermParts, Su
 fn with_constant(parts: TermParts, sum: &Wide) -> Result<TermParts, SubstFault>
     ensures ok { IfOk result (λ all. (counts : List Counted) → map part_of parts ≡ named_parts counts → map part_of all ≡ spelled counts sum.now) }
     ensures fits { OnOk result (fits sum.now ≡ true) }
+    ensures places { IfOk result (λ all. IsWithNumber (map where_of parts) (map where_of all)) }
     ensures err { IfErr result (λ fault. fault ≡ cause.TooLarge → fits sum.now ≡ false) }
 {
     let mut all = parts;
@@ -93,6 +99,8 @@ impl Summands {
         ensures same { IfOk result (λ term. (sum : Sum) → HasSums self.now sum → IsSameSum (term_of term) sum) }
         ensures normal { IfOk result (λ term. IsNormal (term_of term)) }
         ensures fits { OnOk result ((sum : Sum) → HasSums self.now sum → NumbersFit sum) }
+        ensures span { IfOk result (λ term. term.span ≡ span) }
+        ensures places { IfOk result (λ term. (tokens : List Token) → HasPlaces self.now tokens → All (λ p. p.name_span ≡ place_among tokens p.name) term.parts) }
         ensures err { IfErr result (λ fault. fault ≡ cause.TooLarge → (sum : Sum) → HasSums self.now sum → NumbersFit sum → ⊥) }
     {
         let _ordered = self.named.len();

@@ -1,9 +1,11 @@
 //! Resources with terms put in.
-ghost use Rattle.std.specs.Prelude.{◌≡◌, ◌+◌, ◌≤◌, suc, [], true, false, length, map, All, IfOk, IfErr};
+ghost use Rattle.std.specs.Prelude.{◌≡◌, ◌+◌, ◌≤◌, ◌∷◌, suc, [], true, false, length, take, map, flat_map, All, IfOk, IfErr};
+ghost use Rattle.core_language.specs.Resources.{Int, End};
 ghost use Rattle.chan_syntax.specs.Reading.{term_of, limit_of, ref_of, shape_of, res_of};
 ghost use Rattle.linear_forms.specs.Substitution.{Fits, AllFit, Each, IsNormalPut, IsLimitLike, IsRefLike, IsShapeLike, IsResLike, IsRenamed, IsSubst, terms_of_shape, terms_of_res};
 ghost use Rattle.substitution.specs.declared.faults.SubstFault.TheVariants as cause;
-ghost use Rattle.linear_forms.specs.Replacing.{IsShort, IsShortShape, IsShortRes, ArePutShort, AreSafe, IsReady, IsReadyLimit, FitsLimit};
+ghost use Rattle.linear_forms.specs.Replacing.{IsShort, IsShortShape, IsShortRes, ArePutShort, AreSafe, IsLonger, IsReady, IsReadyLimit, FitsLimit};
+ghost use Rattle.substitution.specs.Places.{Words, IsPlacedTerm, IsPlaced, ArePlaced, pieces_of_limit, pieces_of_ref, pieces_of_shape, pieces_of_res};
 ghost use Rattle.substitution.specs.Scopes.{put_in, put_of, before_of, after_of};
 
 use crate::catching::catches;
@@ -12,13 +14,16 @@ use crate::lengths::{longest_put, with_res};
 use crate::putting::sums_of;
 use crate::scope::{Binder, Put, Scope, joined, made_names, puts_of};
 use chan_base::Memory;
-use chan_syntax::{Bound, Ident, Idents, Limit, Limits, Ref, Res, Shape, Term, Terms, copy_spans};
+use chan_syntax::{
+    Bound, Ident, Idents, Limit, Limits, Ref, Res, Resources, Shape, Term, Terms, copy_spans,
+};
 use sqlite_items::{Boxed, Items};
 use std::alloc::Global;
 
 fn subst_term(alloc: Global, put: &[Put], scope: &[Binder], term: &Term) -> Result<Term, SubstFault>
     requires { IsReady (map put_in put.now) (before_of scope.now) (after_of scope.now) (term_of term.now) }
     ensures ok { IfOk result (λ put_term. IsNormalPut (map put_in put.now) (before_of scope.now) (after_of scope.now) (term_of term.now) (term_of put_term)) }
+    ensures places { IfOk result (λ put_term. IsPlacedTerm put.now (before_of scope.now) (after_of scope.now) term.now put_term) }
     ensures err { IfErr result (λ fault. fault ≡ cause.TooLarge → Fits (map put_in put.now) (before_of scope.now) (term_of term.now) → ⊥) }
 {
     let sums = sums_of(alloc, scope, put, term.parts.as_slice())?;
@@ -34,6 +39,7 @@ fn subst_terms_in(
 ) -> Result<Terms, SubstFault>
     requires { All (IsReady (map put_in put.now) (before_of scope.now) (after_of scope.now)) (map term_of terms.now) }
     ensures ok { IfOk result (λ all. Each (IsNormalPut (map put_in put.now) (before_of scope.now) (after_of scope.now)) (map term_of terms.now) (map term_of all)) }
+    ensures places { IfOk result (λ all. Each (IsPlaced put.now) (map (Words (before_of scope.now)) terms.now) (map (Words (after_of scope.now)) all)) }
     ensures err { IfErr result (λ fault. fault ≡ cause.TooLarge → All (Fits (map put_in put.now) (before_of scope.now)) (map term_of terms.now) → ⊥) }
 {
     let mut all = Items::new(alloc);
@@ -51,6 +57,7 @@ fn subst_limit(
 ) -> Result<Limit, SubstFault>
     requires { IsReadyLimit (map put_in put.now) (before_of scope.now) (after_of scope.now) (limit_of limit.now) }
     ensures ok { IfOk result (λ put_limit. IsLimitLike (IsNormalPut (map put_in put.now)) (before_of scope.now) (after_of scope.now) (limit_of limit.now) (limit_of put_limit)) }
+    ensures places { IfOk result (λ put_limit. Each (IsPlaced put.now) (pieces_of_limit (before_of scope.now) limit.now) (pieces_of_limit (after_of scope.now) put_limit)) }
     ensures err { IfErr result (λ fault. fault ≡ cause.TooLarge → FitsLimit (map put_in put.now) (before_of scope.now) (limit_of limit.now) → ⊥) }
 {
     Ok(Limit {
@@ -68,6 +75,7 @@ fn subst_limits(
 ) -> Result<Limits, SubstFault>
     requires { All (IsReadyLimit (map put_in put.now) (before_of scope.now) (after_of scope.now)) (map limit_of limits.now) }
     ensures ok { IfOk result (λ all. Each (IsLimitLike (IsNormalPut (map put_in put.now)) (before_of scope.now) (after_of scope.now)) (map limit_of limits.now) (map limit_of all)) }
+    ensures places { IfOk result (λ all. Each (IsPlaced put.now) (flat_map (pieces_of_limit (before_of scope.now)) limits.now) (flat_map (pieces_of_limit (after_of scope.now)) all)) }
     ensures err { IfErr result (λ fault. fault ≡ cause.TooLarge → All (FitsLimit (map put_in put.now) (before_of scope.now)) (map limit_of limits.now) → ⊥) }
 {
     let mut all = Items::new(alloc);
@@ -80,6 +88,7 @@ fn subst_limits(
 fn subst_ref(alloc: Global, put: &[Put], scope: &[Binder], from: &Ref) -> Result<Ref, SubstFault>
     requires { All (IsReady (map put_in put.now) (before_of scope.now) (after_of scope.now)) (map term_of from.now.args) }
     ensures ok { IfOk result (λ put_ref. IsRefLike (IsNormalPut (map put_in put.now)) (before_of scope.now) (after_of scope.now) (ref_of from.now) (ref_of put_ref)) }
+    ensures places { IfOk result (λ put_ref. Each (IsPlaced put.now) (pieces_of_ref (before_of scope.now) from.now) (pieces_of_ref (after_of scope.now) put_ref)) }
     ensures err { IfErr result (λ fault. fault ≡ cause.TooLarge → All (Fits (map put_in put.now) (before_of scope.now)) (map term_of from.now.args) → ⊥) }
 {
     Ok(Ref {
@@ -89,6 +98,26 @@ fn subst_ref(alloc: Global, put: &[Put], scope: &[Binder], from: &Ref) -> Result
         args: subst_terms_in(alloc, put, scope, from.args.as_slice())?,
         span: from.span,
     })
+}
+
+fn subst_int(alloc: Global, put: &[Put], scope: &[Binder], term: &Term) -> Result<Shape, SubstFault>
+    requires { IsReady (map put_in put.now) (before_of scope.now) (after_of scope.now) (term_of term.now) }
+    ensures ok { IfOk result (λ shape. IsShapeLike (IsRenamed (map put_in put.now)) (IsNormalPut (map put_in put.now)) (before_of scope.now) (after_of scope.now) (Int (term_of term.now)) (shape_of shape)) }
+    ensures places { IfOk result (λ shape. Each (IsPlaced put.now) (Words (before_of scope.now) term.now ∷ []) (pieces_of_shape (after_of scope.now) shape)) }
+    ensures err { IfErr result (λ fault. fault ≡ cause.TooLarge → AllFit (map put_in put.now) (terms_of_shape (before_of scope.now) (Int (term_of term.now))) → ⊥) }
+{
+    let put_term = subst_term(alloc, put, scope, term)?;
+    Ok(Shape::Int(put_term))
+}
+
+fn subst_end(alloc: Global, put: &[Put], scope: &[Binder], end: &Ref) -> Result<Shape, SubstFault>
+    requires { All (IsReady (map put_in put.now) (before_of scope.now) (after_of scope.now)) (map term_of end.now.args) }
+    ensures ok { IfOk result (λ shape. IsShapeLike (IsRenamed (map put_in put.now)) (IsNormalPut (map put_in put.now)) (before_of scope.now) (after_of scope.now) (End (ref_of end.now)) (shape_of shape)) }
+    ensures places { IfOk result (λ shape. Each (IsPlaced put.now) (pieces_of_ref (before_of scope.now) end.now) (pieces_of_shape (after_of scope.now) shape)) }
+    ensures err { IfErr result (λ fault. fault ≡ cause.TooLarge → AllFit (map put_in put.now) (terms_of_shape (before_of scope.now) (End (ref_of end.now))) → ⊥) }
+{
+    let put_ref = subst_ref(alloc, put, scope, end)?;
+    Ok(Shape::End(put_ref))
 }
 
 fn sum(left: usize, right: usize) -> Result<usize, Memory>
@@ -157,7 +186,7 @@ fn binders(
     requires { All (IsShort longest) res.now.bound.names }
     ensures before { IfOk result (λ group. before_of group ≡ res.now.bound.names) }
     ensures safe { IfOk result (λ group. AreSafe longest (map put_in put.now) (terms_of_res (before_of scope.now) (res_of res.now)) (length scope.now) (before_of group) (after_of group)) }
-    ensures renamed { IfOk result (λ group. Each (IsRenamed (map put_in put.now) (before_of scope.now) (res_of res.now)) res.now.bound.names (after_of group)) }
+    ensures longer { IfOk result (λ group. Each (IsLonger longest (map put_in put.now) (before_of scope.now) (res_of res.now)) res.now.bound.names (after_of group)) }
 {
     let mut group = Items::new(alloc);
     let names = res.bound.names.as_slice();
@@ -169,6 +198,31 @@ fn binders(
         group.push(made)?;
     }
     Ok(group)
+}
+
+/// The binders that the scope begins with, under their new names, and the limits that they keep.
+fn subst_bound(
+    alloc: Global,
+    put: &[Put],
+    scope: &[Binder],
+    bound: &Bound,
+) -> Result<Bound, SubstFault>
+    requires held { length bound.now.names ≤ length scope.now }
+    requires ready { All (IsReadyLimit (map put_in put.now) (before_of scope.now) (after_of scope.now)) (map limit_of bound.now.limits) }
+    ensures names { IfOk result (λ all. all.names ≡ after_of (take (length bound.now.names) scope.now)) }
+    ensures spans { IfOk result (λ all. all.names_spans ≡ bound.now.names_spans) }
+    ensures ok { IfOk result (λ all. Each (IsLimitLike (IsNormalPut (map put_in put.now)) (before_of scope.now) (after_of scope.now)) (map limit_of bound.now.limits) (map limit_of all.limits)) }
+    ensures places { IfOk result (λ all. Each (IsPlaced put.now) (flat_map (pieces_of_limit (before_of scope.now)) bound.now.limits) (flat_map (pieces_of_limit (after_of scope.now)) all.limits)) }
+    ensures err { IfErr result (λ fault. fault ≡ cause.TooLarge → All (FitsLimit (map put_in put.now) (before_of scope.now)) (map limit_of bound.now.limits) → ⊥) }
+{
+    let names = made_names(alloc, &scope[..bound.names.len()])?;
+    let names_spans = copy_spans(alloc, &bound.names_spans)?;
+    let limits = subst_limits(alloc, put, scope, bound.limits.as_slice())?;
+    Ok(Bound {
+        names,
+        names_spans,
+        limits,
+    })
 }
 
 #[cycle(substituting)]
@@ -183,23 +237,64 @@ fn subst_shape(
     requires short { IsShortShape longest (shape_of shape.now) }
     requires put_short { ArePutShort longest (map put_in put.now) }
     ensures ok { IfOk result (λ put_shape. IsShapeLike (IsRenamed (map put_in put.now)) (IsNormalPut (map put_in put.now)) (before_of scope.now) (after_of scope.now) (shape_of shape.now) (shape_of put_shape)) }
+    ensures places { IfOk result (λ put_shape. Each (IsPlaced put.now) (pieces_of_shape (before_of scope.now) shape.now) (pieces_of_shape (after_of scope.now) put_shape)) }
     ensures err { IfErr result (λ fault. fault ≡ cause.TooLarge → AllFit (map put_in put.now) (terms_of_shape (before_of scope.now) (shape_of shape.now)) → ⊥) }
 {
     match shape {
         Shape::Unit => Ok(Shape::Unit),
-        Shape::Int(term) => Ok(Shape::Int(subst_term(alloc, put, scope.as_slice(), term)?)),
-        Shape::End(end) => Ok(Shape::End(subst_ref(alloc, put, scope.as_slice(), end)?)),
+        Shape::Int(term) => subst_int(alloc, put, scope.as_slice(), term),
+        Shape::End(end) => subst_end(alloc, put, scope.as_slice(), end),
         Shape::Pair(first, second) => {
-            let first = subst_res(alloc, longest, put, scope, first.get())?;
-            let second = subst_res(alloc, longest, put, scope, second.get())?;
-            Ok(Shape::Pair(Boxed::new(alloc, first)?, Boxed::new(alloc, second)?))
+            let first = subst_boxed(alloc, longest, put, scope, first.get())?;
+            let second = subst_boxed(alloc, longest, put, scope, second.get())?;
+            Ok(Shape::Pair(first, second))
         }
-        Shape::Sum(left, right) => {
-            let left = subst_res(alloc, longest, put, scope, left.get())?;
-            let right = subst_res(alloc, longest, put, scope, right.get())?;
-            Ok(Shape::Sum(Boxed::new(alloc, left)?, Boxed::new(alloc, right)?))
+        Shape::Sum(arms) => {
+            let arms = subst_resources(alloc, longest, put, scope, arms.as_slice())?;
+            Ok(Shape::Sum(arms))
         }
     }
+}
+
+#[cycle(substituting)]
+fn subst_boxed(
+    alloc: Global,
+    longest: usize,
+    put: &[Put],
+    scope: &Scope,
+    res: &Res,
+) -> Result<Boxed<Res>, SubstFault>
+    requires safe { AreSafe longest (map put_in put.now) (terms_of_res (before_of scope.now) (res_of res.now)) 0 (before_of scope.now) (after_of scope.now) }
+    requires short { IsShortRes longest (res_of res.now) }
+    requires put_short { ArePutShort longest (map put_in put.now) }
+    ensures ok { IfOk result (λ put_res. IsResLike (IsRenamed (map put_in put.now)) (IsNormalPut (map put_in put.now)) (before_of scope.now) (after_of scope.now) (res_of res.now) (res_of put_res)) }
+    ensures places { IfOk result (λ put_res. Each (IsPlaced put.now) (pieces_of_res (before_of scope.now) res.now) (pieces_of_res (after_of scope.now) put_res)) }
+    ensures err { IfErr result (λ fault. fault ≡ cause.TooLarge → AllFit (map put_in put.now) (terms_of_res (before_of scope.now) (res_of res.now)) → ⊥) }
+{
+    let boxed = Boxed::new(alloc, subst_res(alloc, longest, put, scope, res)?)?;
+    Ok(boxed)
+}
+
+#[cycle(substituting)]
+fn subst_resources(
+    alloc: Global,
+    longest: usize,
+    put: &[Put],
+    scope: &Scope,
+    resources: &[Res],
+) -> Result<Resources, SubstFault>
+    requires safe { All (λ r. AreSafe longest (map put_in put.now) (terms_of_res (before_of scope.now) r) 0 (before_of scope.now) (after_of scope.now)) (map res_of resources.now) }
+    requires short { All (IsShortRes longest) (map res_of resources.now) }
+    requires put_short { ArePutShort longest (map put_in put.now) }
+    ensures ok { IfOk result (λ all. Each (IsResLike (IsRenamed (map put_in put.now)) (IsNormalPut (map put_in put.now)) (before_of scope.now) (after_of scope.now)) (map res_of resources.now) (map res_of all)) }
+    ensures places { IfOk result (λ all. Each (IsPlaced put.now) (flat_map (pieces_of_res (before_of scope.now)) resources.now) (flat_map (pieces_of_res (after_of scope.now)) all)) }
+    ensures err { IfErr result (λ fault. fault ≡ cause.TooLarge → All (λ r. AllFit (map put_in put.now) (terms_of_res (before_of scope.now) r)) (map res_of resources.now) → ⊥) }
+{
+    let mut all = Items::new(alloc);
+    for resource in resources {
+        all.push(subst_res(alloc, longest, put, scope, resource)?)?;
+    }
+    Ok(all)
 }
 
 #[cycle(substituting)]
@@ -214,22 +309,14 @@ fn subst_res(
     requires short { IsShortRes longest (res_of res.now) }
     requires put_short { ArePutShort longest (map put_in put.now) }
     ensures ok { IfOk result (λ put_res. IsResLike (IsRenamed (map put_in put.now)) (IsNormalPut (map put_in put.now)) (before_of scope.now) (after_of scope.now) (res_of res.now) (res_of put_res)) }
+    ensures places { IfOk result (λ put_res. Each (IsPlaced put.now) (pieces_of_res (before_of scope.now) res.now) (pieces_of_res (after_of scope.now) put_res)) }
     ensures err { IfErr result (λ fault. fault ≡ cause.TooLarge → AllFit (map put_in put.now) (terms_of_res (before_of scope.now) (res_of res.now)) → ⊥) }
 {
     let group = binders(alloc, longest, put, scope, res)?;
-    let names = made_names(alloc, &group)?;
-    let names_spans = copy_spans(alloc, &res.bound.names_spans)?;
     let scope = joined(alloc, group, scope)?;
-    let limits = subst_limits(alloc, put, scope.as_slice(), res.bound.limits.as_slice())?;
+    let bound = subst_bound(alloc, put, scope.as_slice(), &res.bound)?;
     let shape = subst_shape(alloc, longest, put, &scope, &res.shape)?;
-    Ok(Res {
-        bound: Bound {
-            names,
-            names_spans,
-            limits,
-        },
-        shape,
-    })
+    Ok(Res { bound, shape })
 }
 
 /// The resource in which, at once, each free occurrence of one of the names is replaced by the term
@@ -238,6 +325,7 @@ fn subst_res(
 pub fn subst(alloc: Global, res: &Res, names: &Idents, by: &Terms) -> Result<Res, SubstFault>
     requires { length names.now ≡ length by.now }
     ensures ok { IfOk result (λ put. IsSubst (put_of names.now by.now) (res_of res.now) (res_of put)) }
+    ensures places { IfOk result (λ put. ArePlaced names.now by.now (pieces_of_res [] res.now) (pieces_of_res [] put)) }
     ensures err { IfErr result (λ fault. fault ≡ cause.TooLarge → AllFit (put_of names.now by.now) (terms_of_res [] (res_of res.now)) → ⊥) }
 {
     let put = puts_of(alloc, names, by)?;
@@ -255,6 +343,7 @@ pub fn subst_terms(
 ) -> Result<Terms, SubstFault>
     requires { length names.now ≡ length by.now }
     ensures ok { IfOk result (λ put. Each (IsNormalPut (put_of names.now by.now) [] []) (map term_of terms.now) (map term_of put)) }
+    ensures places { IfOk result (λ put. ArePlaced names.now by.now (map (Words []) terms.now) (map (Words []) put)) }
     ensures err { IfErr result (λ fault. fault ≡ cause.TooLarge → All (Fits (put_of names.now by.now) []) (map term_of terms.now) → ⊥) }
 {
     let put = puts_of(alloc, names, by)?;

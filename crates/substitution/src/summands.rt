@@ -1,12 +1,13 @@
 //! Sums of what names and bare numbers count.
-ghost use Rattle.std.specs.Prelude.{◌≡◌, ◌+◌, ◌≤◌, ◌^◌, ◌++◌, ◌∷◌, [], ℕ, ◌*ℤ◌, unsigned_abs, Some, None, false, OnOk};
+ghost use Rattle.std.specs.Prelude.{◌≡◌, ◌+◌, ◌≤◌, ◌^◌, ◌++◌, ◌∷◌, [], ℕ, ◌*ℤ◌, unsigned_abs, List, Some, None, false, unwrap_or, OnOk};
 ghost use Rattle.core_language.specs.Names.{Ident as Name, same};
 ghost use Rattle.core_language.specs.Terms.{Term as Sum};
 ghost use Rattle.linear_forms.specs.Replacing.{counting};
-ghost use Rattle.substitution.specs.Sums.{sum_at, HasSums, IsWithin};
+ghost use Rattle.substitution.specs.Places.{Token};
+ghost use Rattle.substitution.specs.Sums.{sum_at, span_at, HasSums, HasPlaces, IsWithin};
 
-use chan_base::Memory;
-use chan_syntax::{Ident, Span};
+use chan_base::{Memory, Span};
+use chan_syntax::Ident;
 use std::alloc::Global;
 use std::collections::BTreeMap;
 use wide_sums::Wide;
@@ -29,6 +30,7 @@ impl Summands {
     pub fn new(alloc: Global) -> Summands
         ensures sums { HasSums result [] }
         ensures within { IsWithin 0 result }
+        ensures places { HasPlaces result [] }
     {
         Summands {
             named: BTreeMap::new(alloc),
@@ -42,6 +44,7 @@ impl Summands {
         requires within { IsWithin (2 ^ 247) self.old }
         ensures sums { (sum : Sum) → HasSums self.old sum → HasSums self.new (sum ++ counting (weight *ℤ times) None ∷ []) }
         ensures within { (size : ℕ) → IsWithin size self.old → IsWithin (size + 2 ^ 126) self.new }
+        ensures places { (tokens : List Token) → HasPlaces self.old tokens → HasPlaces self.new tokens }
     {
         self.constant.add_product(weight, times);
     }
@@ -51,6 +54,8 @@ impl Summands {
         ensures sum { result.sum ≡ sum_at self.old name.now }
         ensures others { (x : Name) → same name.now x ≡ false → sum_at self.new x ≡ sum_at self.old x }
         ensures constant { self.new.constant ≡ self.old.constant }
+        ensures span { result.span ≡ unwrap_or (span_at self.old name.now) span }
+        ensures other_spans { (x : Name) → same name.now x ≡ false → span_at self.new x ≡ span_at self.old x }
     {
         match self.named.remove(name) {
             Some(summand) => summand,
@@ -74,6 +79,7 @@ impl Summands {
         requires within { IsWithin (2 ^ 247) self.old }
         ensures sums { OnOk result ((sum : Sum) → HasSums self.old sum → HasSums self.new (sum ++ counting (weight *ℤ times) (Some name.now) ∷ [])) }
         ensures within { OnOk result ((size : ℕ) → IsWithin size self.old → IsWithin (size + 2 ^ 126) self.new) }
+        ensures places { OnOk result ((tokens : List Token) → HasPlaces self.old tokens → HasPlaces self.new (tokens ++ record { name = name.now; place = span } ∷ [])) }
     {
         let mut summand = self.take(name, span);
         summand.sum.add_product(weight, times);

@@ -19,14 +19,14 @@ use Rattle.grammar_laws.specs.Grammar as g
 use Rattle.surface_grammar.specs.declared.words.Word.TheVariants as w
 use Rattle.surface_grammar.specs.declared.parts.Named.{Named}
 use Rattle.surface_grammar.specs.declared.parts.Names.{Names}
-use Rattle.surface_grammar.specs.Grammar.{G, ABlock, cover, word, ◌▷◌, ◌◁◌, ◌⇒◌, yes, repeated, listed, closed, opened, name, names}
+use Rattle.surface_grammar.specs.Grammar.{G, ABlock, cover, word, ◌▷◌, ◌◁◌, ◌⇒◌, yes, repeated, up_to, more_arms_than_two, listed, closed, opened, name, names}
 use Rattle.surface_grammar.specs.Terms.{bound, reference, res, param}
 use Rattle.surface_grammar.specs.Operands.{no_names}
 use Rattle.surface_grammar.specs.Statements.{at_most}
 
 -- ---- pbody = ("send" | "recv") res [ "then" ref ] | "close" | "wait"
 -- ----       | "if" term "<=" term "then" ref "else" ref
--- ----       | ("choice" | "offer") NAME "of" ref "|" ref
+-- ----       | ("choice" | "offer") NAME "of" ref "|" ref { "|" ref }
 
 -- [ "then" ref ]
 unfoldable pub then_ref : G (Option Ref)
@@ -48,17 +48,25 @@ equation =
     (g.either (yes (w.Close ∷ [])) (word w.Close ⇒ (λ _. e.Close))
     (g.either (yes (w.Wait ∷ [])) (word w.Wait ⇒ (λ _. e.Wait)) (word w.If ▷ branch))))
 
--- ref "|" ref
-unfoldable pub alternatives : G (Ref × Ref)
-alternatives = g.seq (λ a b. (a, b)) reference (word w.Bar ▷ reference)
+-- "|" ref
+unfoldable pub next_ref : G Ref
+next_ref = word w.Bar ▷ reference
 
--- NAME "of" ref "|" ref
-unfoldable pub choice : G (Named × (Ref × Ref))
+-- { "|" ref }, at most 14
+unfoldable pub more_refs : G (List Ref)
+more_refs = up_to more_arms_than_two (w.Bar ∷ []) next_ref
+
+-- ref "|" ref { "|" ref }
+unfoldable pub alternatives : G (List Ref)
+alternatives = g.seq (λ a rs. a ∷ rs) reference (g.seq (λ b rs. b ∷ rs) next_ref more_refs)
+
+-- NAME "of" ref "|" ref { "|" ref }
+unfoldable pub choice : G (Named × List Ref)
 choice = g.seq (λ n r. (n, r)) name (word w.Of ▷ alternatives)
 
 -- a choice that is received, or sent
-abbrev pub choice_of : Bool → Named × (Ref × Ref) → Body
-choice_of offer p = b.Choice offer p.0.name p.0.span p.1.0 p.1.1
+abbrev pub choice_of : Bool → Named × List Ref → Body
+choice_of offer p = b.Choice offer p.0.name p.0.span p.1
 
 unfoldable pub pbody : G Body
 pbody =

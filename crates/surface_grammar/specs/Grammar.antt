@@ -1,7 +1,7 @@
 -- Words for the grammar of programs.
-use Rattle.std.specs.Prelude.{ℕ, ◌-◌, Bool, true, ◌||◌, if◌then◌else◌, ◌==◌, nat_le, List, [], ◌∷◌, length, map, slice_get, Option, Some}
+use Rattle.std.specs.Prelude.{ℕ, zero, suc, ◌-◌, Bool, true, ◌||◌, if◌then◌else◌, ◌==◌, nat_le, List, [], ◌∷◌, length, map, slice_get, Option, Some}
 use Rattle.std.specs.List.{list_all}
-use Rattle.chan_syntax.specs.declared.identifiers.Span.{Span}
+use Rattle.chan_base.specs.declared.spans.Span.{Span}
 use Rattle.chan_syntax.specs.declared.operands.Supply.{Supply}
 use Rattle.chan_syntax.specs.declared.operands.Letter.{Letter}
 use Rattle.chan_syntax.specs.declared.operands.Letter.TheVariants.{Left, Right}
@@ -77,6 +77,15 @@ yes (v ∷ vs) = code_of v ∷ yes vs
 abbrev pub repeated : {A : Type 0} → List Word → G A → G (List A)
 repeated vs item = g.many (yes vs) (λ xs. xs) item
 
+-- at most so many items, where each begins with one of these words
+abbrev pub up_to : {A : Type 0} → ℕ → List Word → G A → G (List A)
+up_to zero vs item = g.pure []
+up_to (suc n) vs item = g.either (yes vs) (g.seq (λ x xs. x ∷ xs) item (up_to n vs item)) (g.pure [])
+
+-- how many arms a sum, a choice, a match or a branch may have beyond the first two
+abbrev pub more_arms_than_two : ℕ
+more_arms_than_two = 14
+
 -- item { "," item }
 abbrev pub listed : {A : Type 0} → G A → G (List A)
 listed item = g.seq (λ x xs. x ∷ xs) item (repeated (w.Comma ∷ []) (word w.Comma ▷ item))
@@ -103,6 +112,14 @@ number_of _ = 0
 -- NUMBER
 unfoldable pub number : G Digits
 number = g.one number_code (λ t. nat_le (number_of t.kind) limit) (λ t. record { value = number_of t.kind; span = t.span })
+
+-- a NUMBER that is at most 15
+unfoldable pub arm_number : G ℕ
+arm_number = g.one number_code (λ t. nat_le (number_of t.kind) 15) (λ t. number_of t.kind)
+
+-- the NUMBER i
+unfoldable pub the_number : ℕ → G (Unit {0})
+the_number i = g.one number_code (λ t. number_of t.kind == i) (λ _. tt {0})
 
 -- `l` or `r`
 abbrev pub is_letter : ℕ → Bool

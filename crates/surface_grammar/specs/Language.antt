@@ -20,7 +20,7 @@ body ABlock = block
 
 -- the codes that each name may begin with
 abbrev pub firsts : Rule → List ℕ
-firsts AValue = name_code ∷ number_code ∷ yes (w.LeftParen ∷ w.Inl ∷ w.Inr ∷ w.Minus ∷ [])
+firsts AValue = name_code ∷ number_code ∷ yes (w.LeftParen ∷ w.Inl ∷ w.Inr ∷ w.Hash ∷ w.Minus ∷ [])
 firsts ARes = yes (w.LeftBracket ∷ w.Unit ∷ w.Int ∷ w.End ∷ w.LeftParen ∷ w.Sum ∷ [])
 firsts ABlock = yes (w.LeftBrace ∷ [])
 
@@ -33,8 +33,8 @@ follows ABlock = []
 abbrev pub surface : Language Token Rule TreeOf
 surface = record { code = code; firsts = firsts; follows = follows; body = body; sample = sample }
 
--- The levels of nesting that a text may have. Each `(`, `[`, `{`, `inl` and `inr` opens one, up to what closes it; an `inl` or `inr` of a
--- value is open to the end of the value, and one of an arm to the end of its pattern.
+-- The levels of nesting that a text may have. Each `(`, `[` and `{` and each tag of a value or an arm opens one, at its first token, up to
+-- what closes it; the tag of a value is open to the end of the value, and that of an arm to the end of its pattern.
 abbrev pub max_levels : ℕ
 max_levels = 200
 

@@ -1,6 +1,6 @@
 -- Values, patterns, paths and proofs.
 use Rattle.std.specs.Prelude.{Bool, true, false, List, [], ◌∷◌, Option, Some, None}
-use Rattle.chan_syntax.specs.declared.identifiers.Span.{Span}
+use Rattle.chan_base.specs.declared.spans.Span.{Span}
 use Rattle.chan_syntax.specs.declared.linear.Term.{Term}
 use Rattle.chan_syntax.specs.declared.operands.Supply.{Supply}
 use Rattle.chan_syntax.specs.declared.operands.Supply.TheVariants as v
@@ -18,10 +18,11 @@ use Rattle.surface_grammar.specs.declared.parts.CertParts.{CertParts}
 use Rattle.surface_grammar.specs.declared.parts.BehindNumber.{BehindNumber}
 use Rattle.surface_grammar.specs.declared.parts.BehindNumber.TheVariants as b
 use Rattle.surface_grammar.specs.Words.{number_code}
-use Rattle.surface_grammar.specs.Grammar.{G, AValue, cover, word, ◌▷◌, ◌◁◌, ◌⇒◌, yes, repeated, listed, closed, opened, name, number, names, letters}
+use Rattle.surface_grammar.specs.Grammar.{G, AValue, cover, word, ◌▷◌, ◌◁◌, ◌⇒◌, yes, repeated, listed, closed, opened, name, number, arm_number, names, letters}
 use Rattle.surface_grammar.specs.Terms.{term, terms}
 
--- ---- value = "(" ")" | "(" value "," value ")" | "inl" value | "inr" value | term
+-- ---- value = "(" ")" | "(" value "," value ")" | tag value | term
+-- ---- tag = "inl" | "inr" | "#" NUMBER
 -- The two that begin with "(" are read as one up to there.
 
 -- value "," value ")"
@@ -32,11 +33,16 @@ pair = g.seq v.Pair (g.call AValue (λ x. x)) (word w.Comma ▷ (g.call AValue (
 unfoldable pub parenthesized : G Supply
 parenthesized = g.either (yes (w.RightParen ∷ [])) (word w.RightParen ⇒ (λ _. v.Unit)) pair
 
+-- NUMBER value, behind "#"
+unfoldable pub numbered_value : G Supply
+numbered_value = g.seq v.Arm arm_number (g.call AValue (λ x. x))
+
 unfoldable pub value : G Supply
 value =
     g.either (yes (w.LeftParen ∷ [])) (opened w.LeftParen parenthesized)
-    (g.either (yes (w.Inl ∷ [])) (opened w.Inl (g.call AValue v.Left))
-    (g.either (yes (w.Inr ∷ [])) (opened w.Inr (g.call AValue v.Right)) (term ⇒ v.Sum)))
+    (g.either (yes (w.Inl ∷ [])) (opened w.Inl (g.call AValue (v.Arm 0)))
+    (g.either (yes (w.Inr ∷ [])) (opened w.Inr (g.call AValue (v.Arm 1)))
+    (g.either (yes (w.Hash ∷ [])) (opened w.Hash numbered_value) (term ⇒ v.Sum))))
 
 -- values = value { "," value }
 unfoldable pub values : G (List Supply)

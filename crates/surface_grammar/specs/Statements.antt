@@ -1,6 +1,6 @@
 -- Blocks, their statements and how they end.
-use Rattle.std.specs.Prelude.{Bool, true, false, List, [], ◌∷◌, Some}
-use Rattle.chan_syntax.specs.declared.identifiers.Span.{Span}
+use Rattle.std.specs.Prelude.{ℕ, zero, suc, List, [], ◌∷◌, Some}
+use Rattle.chan_base.specs.declared.spans.Span.{Span}
 use Rattle.chan_syntax.specs.declared.linear.Term.{Term}
 use Rattle.chan_syntax.specs.declared.linear.Bound.{Bound}
 use Rattle.chan_syntax.specs.declared.resources.Ref.{Ref}
@@ -16,6 +16,7 @@ use Rattle.chan_syntax.specs.declared.surface_tree.Stmt.TheVariants as s
 use Rattle.chan_syntax.specs.declared.surface_tree.Last.{Last}
 use Rattle.chan_syntax.specs.declared.surface_tree.Last.TheVariants as l
 use Rattle.chan_syntax.specs.declared.surface_tree.Block.{Block, roll-Block}
+use Rattle.chan_syntax.specs.declared.surface_tree.SurfaceArm.{SurfaceArm, roll-SurfaceArm}
 use Rattle.grammar_laws.specs.Grammar as g
 use Rattle.surface_grammar.specs.declared.words.Word.{Word}
 use Rattle.surface_grammar.specs.declared.words.Word.TheVariants as w
@@ -39,7 +40,7 @@ use Rattle.surface_grammar.specs.declared.parts.PairGiven.TheVariants as p
 use Rattle.surface_grammar.specs.declared.parts.Binding.{Binding}
 use Rattle.surface_grammar.specs.declared.parts.Binding.TheVariants as b
 use Rattle.surface_grammar.specs.Words.{name_code}
-use Rattle.surface_grammar.specs.Grammar.{G, ABlock, cover, word, ◌▷◌, ◌◁◌, ◌⇒◌, yes, repeated, listed, closed, opened, name}
+use Rattle.surface_grammar.specs.Grammar.{G, ABlock, cover, word, ◌▷◌, ◌◁◌, ◌⇒◌, yes, repeated, up_to, more_arms_than_two, listed, closed, opened, name, arm_number, the_number}
 use Rattle.surface_grammar.specs.Terms.{part_of, more_parts, term, number_term, two_terms, term_and_number, bound, reference, shape, res, param}
 use Rattle.surface_grammar.specs.Operands.{value, given_values, bracketed, no_names, pat_of, pat, route, proof}
 
@@ -114,13 +115,18 @@ given_name = g.spanned (λ ts (p : Named × Tail). named_given p.0 p.1 (cover ts
 unfoldable pub given_term : G Given
 given_term = g.either (name_code ∷ []) given_name (number_term ⇒ v.Term)
 
--- "send" NAME ":" ref [path] value proof | ("left" | "right") NAME ":" ref [path] proof | the above
+-- NUMBER NAME ":" ref [path] proof, behind "#"
+unfoldable pub numbered_choice : G Given
+numbered_choice = g.seq (λ i (p : Target × Proof). v.Choose i p.0 p.1) arm_number (g.seq (λ x q. (x, q)) target proof)
+
+-- "send" NAME ":" ref [path] value proof | ("left" | "right" | "#" NUMBER) NAME ":" ref [path] proof | the above
 unfoldable pub given_target : G Given
 given_target =
     g.either (yes (w.Send ∷ []))
     (word w.Send ▷ g.seq (λ x (p : Supply × Proof). v.Send x p.0 p.1) target (g.seq (λ x y. (x, y)) value proof))
-    (g.either (yes (w.Left ∷ [])) (word w.Left ▷ g.seq v.Left target proof)
-    (g.either (yes (w.Right ∷ [])) (word w.Right ▷ g.seq v.Right target proof) given_term))
+    (g.either (yes (w.Left ∷ [])) (word w.Left ▷ g.seq (v.Choose 0) target proof)
+    (g.either (yes (w.Right ∷ [])) (word w.Right ▷ g.seq (v.Choose 1) target proof)
+    (g.either (yes (w.Hash ∷ [])) (word w.Hash ▷ numbered_choice) given_term)))
 
 -- "fork" ref .. | "recv1" NAME [path] proof | the above
 unfoldable pub given_end : G Given
@@ -163,8 +169,8 @@ abbrev pub let_send : Named → Target → Supply → Proof → Span → Stmt
 let_send n a x q span = s.Send n.name n.span a.channel.name a.channel.span a.proto a.route.path a.route.span x q span
 
 -- of "let" NAME and what is chosen
-abbrev pub let_choose : Bool → Named → Target → Proof → Span → Stmt
-let_choose right n a q span = s.Choose right n.name n.span a.channel.name a.channel.span a.proto a.route.path a.route.span q span
+abbrev pub let_choose : ℕ → Named → Target → Proof → Span → Stmt
+let_choose arm n a q span = s.Choose arm n.name n.span a.channel.name a.channel.span a.proto a.route.path a.route.span q span
 
 -- of "let" NAME, names in brackets, and what they are given
 abbrev pub let_given : Named → Names → Given → Span → Stmt
@@ -176,8 +182,7 @@ let_given n ns (v.Call c) span = let_call (pat_of n ns) c span
 let_given n ns (v.Fork r c) span = let_fork n r c span
 let_given n ns (v.Recv1 a) span = let_recv1 (pat_of n ns) a span
 let_given n ns (v.Send a x q) span = let_send n a x q span
-let_given n ns (v.Left a q) span = let_choose false n a q span
-let_given n ns (v.Right a q) span = let_choose true n a q span
+let_given n ns (v.Choose i a q) span = let_choose i n a q span
 
 -- ---- "let" "(" pat "," pat ")" [ "[" names "]" ] "=" "recv" NAME [path] proof | "let" "(" pat "," pat ")" "=" NAME
 -- The two are read as one up to the names or to what follows "=".
@@ -269,42 +274,68 @@ if_last =
     g.spanned (λ ts (p : (Term × Term) × (Block × Block)). l.If p.0.0 p.0.1 p.1.0 p.1.1 (cover ts))
     (word w.If ▷ g.seq (λ c b. (c, b)) at_most two_blocks)
 
--- "inl" pat, where the word is open to the end of the pattern
+-- "#" NUMBER pat, where the NUMBER is i and the tag is open to the end of the pattern
+unfoldable pub hash_pat : ℕ → G Pat
+hash_pat i = opened w.Hash (the_number i ▷ pat)
+
+-- ("inl" | "#" 0) pat
 unfoldable pub left_pat : G Pat
-left_pat = opened w.Inl pat
+left_pat = g.either (yes (w.Inl ∷ [])) (opened w.Inl pat) (hash_pat 0)
 
--- "inr" pat, where the word is open to the end of the pattern
+-- ("inr" | "#" 1) pat
 unfoldable pub right_pat : G Pat
-right_pat = opened w.Inr pat
+right_pat = g.either (yes (w.Inr ∷ [])) (opened w.Inr pat) (hash_pat 1)
 
--- "inl" pat block
-unfoldable pub left_arm : G (Pat × Block)
-left_arm = g.seq (λ q b. (q, b)) left_pat (g.call ABlock (λ b. b))
+-- the tag of the arm i and its pattern
+abbrev pub tagged_pat : ℕ → G Pat
+tagged_pat zero = left_pat
+tagged_pat (suc zero) = right_pat
+tagged_pat (suc (suc i)) = hash_pat (suc (suc i))
 
--- "inr" pat block
-unfoldable pub right_arm : G (Pat × Block)
-right_arm = g.seq (λ q b. (q, b)) right_pat (g.call ABlock (λ b. b))
+-- tag pat block, where the tag is that of the arm i
+unfoldable pub arm : ℕ → G SurfaceArm
+arm i = g.seq (λ q b. roll-SurfaceArm (record { pat = q; block = b })) (tagged_pat i) (g.call ABlock (λ b. b))
 
--- "{" "inl" pat block "inr" pat block "}"
-unfoldable pub arms : G ((Pat × Block) × (Pat × Block))
-arms = opened w.LeftBrace (g.seq (λ a b. (a, b)) left_arm (right_arm ◁ word w.RightBrace))
+-- { tag pat block }, at most n, from the arm i on
+abbrev pub arms_from : (n i : ℕ) → G (List SurfaceArm)
+arms_from zero i = g.pure []
+arms_from (suc n) i = g.either (yes (w.Hash ∷ [])) (g.seq (λ a xs. a ∷ xs) (arm i) (arms_from n (suc i))) (g.pure [])
 
--- "match" NAME "{" "inl" pat block "inr" pat block "}"
+-- { tag pat block }, from the third arm on
+unfoldable pub more_arms : G (List SurfaceArm)
+more_arms = arms_from more_arms_than_two 2
+
+-- "{" tag pat block tag pat block { tag pat block } "}"
+unfoldable pub arms : G (List SurfaceArm)
+arms = opened w.LeftBrace (g.seq (λ a xs. a ∷ xs) (arm 0) (g.seq (λ b xs. b ∷ xs) (arm 1) (more_arms ◁ word w.RightBrace)))
+
+-- "match" NAME "{" tag pat block tag pat block { tag pat block } "}"
 unfoldable pub match_last : G Last
 match_last =
-    g.spanned (λ ts (p : Named × ((Pat × Block) × (Pat × Block))). l.Match p.0.name p.0.span p.1.0.0 p.1.0.1 p.1.1.0 p.1.1.1 (cover ts))
-    (word w.Match ▷ g.seq (λ n a. (n, a)) name arms)
+    g.spanned (λ ts (p : Named × List SurfaceArm). l.Match p.0.name p.0.span p.1 (cover ts)) (word w.Match ▷ g.seq (λ n a. (n, a)) name arms)
 
 -- "as" NAME "," NAME
 unfoldable pub as_names : G (Named × Named)
 as_names = word w.As ▷ g.seq (λ a b. (a, b)) name (word w.Comma ▷ name)
 
--- "branch" NAME [path] proof "as" NAME "," NAME block "else" block
+-- "else" block
+unfoldable pub next_block : G Block
+next_block = word w.Else ▷ g.call ABlock (λ x. x)
+
+-- { "else" block }, at most 14
+unfoldable pub more_blocks : G (List Block)
+more_blocks = up_to more_arms_than_two (w.Else ∷ []) next_block
+
+-- block "else" block { "else" block }
+unfoldable pub blocks : G (List Block)
+blocks = g.seq (λ a bs. a ∷ bs) (g.call ABlock (λ x. x)) (g.seq (λ b bs. b ∷ bs) next_block more_blocks)
+
+-- "branch" NAME [path] proof "as" NAME "," NAME block "else" block { "else" block }
 unfoldable pub branch_last : G Last
 branch_last =
-    g.spanned (λ ts (p : Access × ((Named × Named) × (Block × Block))).
-    l.Branch p.0.channel.name p.0.channel.span p.0.route.path p.0.route.span p.0.proof p.1.0.0.name p.1.0.0.span p.1.0.1.name p.1.0.1.span p.1.1.0 p.1.1.1 (cover ts))
-    (word w.Branch ▷ g.seq (λ a p. (a, p)) access (g.seq (λ n b. (n, b)) as_names two_blocks))
+    g.spanned (λ ts (p : Access × ((Named × Named) × List Block)).
+    l.Branch p.0.channel.name p.0.channel.span p.0.route.path p.0.route.span p.0.proof p.1.0.0.name p.1.0.0.span p.1.0.1.name p.1.0.1.span p.1.1 (cover ts))
+    (word w.Branch ▷ g.seq (λ a p. (a, p)) access (g.seq (λ n b. (n, b)) as_names blocks))
 
 -- "absurd" proof
 unfoldable pub absurd_last : G Last

@@ -17,7 +17,7 @@ use Rattle.surface_grammar.specs.declared.parts.Named.{Named}
 use Rattle.surface_grammar.specs.declared.parts.Names.{Names}
 use Rattle.surface_grammar.specs.declared.parts.Digits.{Digits}
 use Rattle.surface_grammar.specs.Words.{number_code}
-use Rattle.surface_grammar.specs.Grammar.{G, ARes, cover, word, ◌▷◌, ◌◁◌, ◌⇒◌, yes, repeated, listed, closed, opened, name, number, names}
+use Rattle.surface_grammar.specs.Grammar.{G, ARes, cover, word, ◌▷◌, ◌◁◌, ◌⇒◌, yes, repeated, up_to, more_arms_than_two, listed, closed, opened, name, number, names}
 
 -- ---- term = ["-"] prod { ("+" | "-") prod }
 
@@ -131,18 +131,31 @@ reference =
     g.spanned (λ ts (p : Bool × (Named × List Term)). record { dual = p.0; name = p.1.0.name; name_span = p.1.0.span; args = p.1.1; span = cover ts })
     (g.seq (λ d p. (d, p)) dual (g.seq (λ n ts. (n, ts)) name args))
 
--- ---- shape = "unit" | "int" "(" term ")" | "end" ref | "(" res "," res ")" | "sum" "(" res "," res ")"
+-- ---- shape = "unit" | "int" "(" term ")" | "end" ref | "(" res "," res ")" | "sum" "(" res "," res { "," res } ")"
 
 -- "(" res "," res ")"
 unfoldable pub two_res : G (Res × Res)
 two_res = opened w.LeftParen (g.seq (λ a b. (a, b)) (g.call ARes (λ a. a)) (word w.Comma ▷ (g.call ARes (λ a. a) ◁ word w.RightParen)))
+
+-- "," res
+unfoldable pub next_res : G Res
+next_res = word w.Comma ▷ g.call ARes (λ a. a)
+
+-- { "," res }, at most 14
+unfoldable pub more_res : G (List Res)
+more_res = up_to more_arms_than_two (w.Comma ∷ []) next_res
+
+-- "(" res "," res { "," res } ")"
+unfoldable pub sum_res : G (List Res)
+sum_res =
+    opened w.LeftParen (g.seq (λ a rs. a ∷ rs) (g.call ARes (λ a. a)) (g.seq (λ b rs. b ∷ rs) next_res (more_res ◁ word w.RightParen)))
 
 unfoldable pub shape : G Shape
 shape =
     g.either (yes (w.Unit ∷ [])) (word w.Unit ⇒ (λ _. s.Unit))
     (g.either (yes (w.Int ∷ [])) (word w.Int ▷ (one_term ⇒ s.Int))
     (g.either (yes (w.End ∷ [])) (word w.End ▷ (reference ⇒ s.End))
-    (g.either (yes (w.Sum ∷ [])) (word w.Sum ▷ (two_res ⇒ (λ (p : Res × Res). s.Sum p.0 p.1)))
+    (g.either (yes (w.Sum ∷ [])) (word w.Sum ▷ (sum_res ⇒ s.Sum))
     (two_res ⇒ (λ (p : Res × Res). s.Pair p.0 p.1)))))
 
 -- res = [binds] shape

@@ -1,7 +1,7 @@
 -- The keywords and marks, and the codes by which a grammar tells tokens apart.
-use Rattle.std.specs.Prelude.{ℕ, Bool, true, false, if◌then◌else◌, ◌==◌, List, [], ◌∷◌, ◌++◌, codes}
+use Rattle.std.specs.Prelude.{ℕ, zero, suc, Bool, true, false, if◌then◌else◌, ◌==◌, List, [], ◌∷◌, ◌++◌, codes}
 use Rattle.std.specs.Str.{bytes_eq}
-use Rattle.chan_syntax.specs.declared.identifiers.Span.{Span}
+use Rattle.chan_base.specs.declared.spans.Span.{Span}
 use Rattle.text_tokens.specs.declared.TokenKind.{TokenKind}
 use Rattle.text_tokens.specs.declared.TokenKind.TheVariants as t
 use Rattle.text_tokens.specs.Text.{Token}
@@ -182,10 +182,19 @@ has_code c (v ∷ vs) = if code_of v == c then true else has_code c vs
 abbrev pub nowhere : Span
 nowhere = record { start = 0; stop = 0; line = 0; column = 0 }
 
--- A token of each code: the name `l`, the number 0, and each keyword and mark.
-abbrev pub sample : ℕ → Token
-sample c =
+-- a NUMBER
+abbrev pub number_token : ℕ → Token
+number_token n = record { kind = t.Number n; text = codes "0"; span = nowhere }
+
+-- the first NUMBER from n on that passes the test, where one of so many does
+abbrev pub first_number : (Token → Bool) → (left n : ℕ) → Token
+first_number p zero n = number_token n
+first_number p (suc left) n = if p (number_token n) then number_token n else first_number p left (suc n)
+
+-- A token of each code: the name `l`, the least number that passes the test, and each keyword and mark.
+abbrev pub sample : ℕ → (Token → Bool) → Token
+sample c p =
     if c == name_code then record { kind = t.Name; text = codes "l"; span = nowhere }
-    else if c == number_code then record { kind = t.Number 0; text = codes "0"; span = nowhere }
+    else if c == number_code then first_number p 16 0
     else if has_code c keywords then record { kind = t.Keyword; text = text_in keywords c; span = nowhere }
     else record { kind = t.Mark; text = text_in marks c; span = nowhere }

@@ -1,7 +1,8 @@
 //! What is read of a statement before all of it is known.
+use chan_base::{Span, Spans};
 use chan_syntax::{
-    Block, Bound, Ident, Idents, Param, Pat, Path, Proof, Ref, Span, Spans, Starts, Supplies,
-    Supply, Term, TermParts, WrittenMentions,
+    Block, Bound, Ident, Idents, Param, Pat, Path, Proof, Ref, Starts, Supplies, Supply, Term,
+    TermParts, WrittenMentions,
 };
 
 /// A NAME and its place.
@@ -107,8 +108,7 @@ pub enum Given {
     Fork(Ref, Forked),
     Recv1(Access),
     Send(Target, Supply, Proof),
-    Left(Target, Proof),
-    Right(Target, Proof),
+    Choose(u8, Target, Proof),
 }
 
 /// What stands right of `let NAME`: names in brackets, or none, and what the name is given.

@@ -1,12 +1,9 @@
 -- The bytes of words and separators, one after another.
-use Rattle.std.proofs.Common.{◌≡◌, codes, ℕ, zero, suc, ℤ, pos, negsuc, List, [], ◌∷◌, ◌++◌, refl, ap, sym, ◌∙◌, append_assoc}
-use Rattle.std.proofs.lemmas.List.{append-nil}
+use Rattle.std.proofs.Common.{◌≡◌, codes, ℕ, zero, suc, List, [], ◌∷◌, ◌++◌, refl, ap, sym, ◌∙◌, append_assoc}
 use Rattle.std.specs.List.{repeat}
-use Rattle.std.specs.Fmt.{signed_decimal}
 use Rattle.text_tokens.specs.declared.TokenKind.{TokenKind}
 use Rattle.text_tokens.specs.Text.{Piece, separator, token, bytes_of}
 use Rattle.surface_spelling.specs.Layout.{mark, space, line, in_parens, in_brackets, pair, closing, in_braces, bytes}
-use Rattle.surface_spelling.specs.Operands.{integer}
 
 pub bytes-nil : bytes [] ≡ []
 unfolding bytes
@@ -24,11 +21,6 @@ pub bytes-append : (ps qs : List Piece) → bytes (ps ++ qs) ≡ bytes ps ++ byt
 unfolding bytes
 bytes-append [] qs = refl
 bytes-append (p ∷ ps) qs = ap (λ v. bytes_of p ++ v) (bytes-append ps qs) ∙ sym (append_assoc (bytes_of p) (bytes ps) (bytes qs))
-
-pub bytes-integer : (z : ℤ) → bytes (integer z) ≡ signed_decimal z
-unfolding bytes integer
-bytes-integer (pos n) = append-nil (signed_decimal (pos n))
-bytes-integer (negsuc n) = append-nil (signed_decimal (negsuc n))
 
 spaces : (d : ℕ) → bytes (repeat d (space ∷ [])) ≡ repeat d (32 ∷ [])
 unfolding bytes
@@ -62,4 +54,4 @@ pub bytes-in_braces : (d : ℕ) (ps : List Piece) → bytes (in_braces d ps) ≡
 unfolding in_braces bytes
 bytes-in_braces d ps = ap (λ v. 123 ∷ v) (bytes-append ps (closing d))
 
-pub ruleset byte_rules = (bytes-nil, bytes-token, bytes-separator, bytes-append, bytes-integer, bytes-line, bytes-in_parens, bytes-in_brackets, bytes-pair, bytes-closing, bytes-in_braces)
+pub ruleset byte_rules = (bytes-nil, bytes-token, bytes-separator, bytes-append, bytes-line, bytes-in_parens, bytes-in_brackets, bytes-pair, bytes-closing, bytes-in_braces)

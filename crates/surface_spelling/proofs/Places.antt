@@ -7,14 +7,14 @@ use Rattle.chan_syntax.specs.declared.resources.Ref.{Ref}
 use Rattle.chan_syntax.specs.declared.resources.Shape.{Shape, Unit, Int, End, Pair', Sum', Row_of-Res, end_of-Res, more_of-Res}
 use Rattle.chan_syntax.specs.declared.resources.Res.{Res}
 use Rattle.chan_syntax.specs.declared.resources.Param.{Param}
-use Rattle.chan_syntax.specs.declared.operands.Supply.{Supply, Unit as SupplyUnit, Pair' as SupplyPair', Left', Right', Sum as SupplySum, Row_of-Supply, end_of-Supply, more_of-Supply}
+use Rattle.chan_syntax.specs.declared.operands.Supply.{Supply, Unit as SupplyUnit, Pair' as SupplyPair', Arm', Sum as SupplySum, Row_of-Supply, end_of-Supply, more_of-Supply}
 use Rattle.chan_syntax.specs.declared.operands.WrittenMention.{WrittenMention}
 use Rattle.chan_syntax.specs.declared.operands.WrittenCert.{WrittenCert}
 use Rattle.chan_syntax.specs.declared.operands.Proof.{Proof}
 use Rattle.chan_syntax.specs.declared.surface_tree.Start.{Start}
 use Rattle.text_tokens.specs.Text.{Piece}
 use Rattle.surface_spelling.specs.Layout.{mark, space, listed, behind_commas}
-use Rattle.surface_spelling.specs.Operands.{first_part, next_part, more_parts, sum, term, limit, limits, binds, binds_before, binds_behind, reference, shape, boxed_res, res, param, value, boxed_value, values, mention, mentions_behind, cert, instances, certificates, proof}
+use Rattle.surface_spelling.specs.Operands.{has_minus, first_part, next_part, more_parts, sum, term, limit, limits, binds, binds_before, binds_behind, reference, shape, boxed_res, row_of_res, res_behind, res, param, value, boxed_value, values, mention, mentions_behind, cert, instances, certificates, proof}
 use Rattle.surface_spelling.specs.Blocks.{start}
 use Rattle.surface_spelling.specs.Erased as e
 
@@ -33,7 +33,7 @@ listed_same item f same (x ∷ xs) = rw (same x, behind_same item f same xs) ref
 -- ---- terms and binders
 
 next_same : (p : Part) → next_part (e.part p) ≡ next_part p
-unfolding next_part
+unfolding next_part has_minus
 next_same p = refl
 
 more_same : (ps : List Part) → more_parts (map e.part ps) ≡ more_parts ps
@@ -42,7 +42,7 @@ more_same [] = refl
 more_same (p ∷ ps) = rw (next_same p, more_same ps) refl
 
 sum_same : (ps : List Part) → sum (map e.part ps) ≡ sum ps
-unfolding sum first_part
+unfolding sum first_part has_minus
 sum_same [] = refl
 sum_same (p ∷ ps) = rw (more_same ps) refl
 
@@ -65,12 +65,14 @@ binds_same ns ls = rw (limits_same ls) refl
 
 pub before_same : (ns : List (List ℕ)) (ls : List Limit) → binds_before ns (map e.limit ls) ≡ binds_before ns ls
 unfolding binds_before
-before_same [] ls = refl
+before_same [] [] = refl
+before_same [] (l ∷ ls) = rw (binds_same [] (l ∷ ls)) refl
 before_same (n ∷ ns) ls = rw (binds_same (n ∷ ns) ls) refl
 
 pub binds_behind_same : (ns : List (List ℕ)) (ls : List Limit) → binds_behind ns (map e.limit ls) ≡ binds_behind ns ls
 unfolding binds_behind
-binds_behind_same [] ls = refl
+binds_behind_same [] [] = refl
+binds_behind_same [] (l ∷ ls) = rw (binds_same [] (l ∷ ls)) refl
 binds_behind_same (n ∷ ns) ls = rw (binds_same (n ∷ ns) ls) refl
 
 -- ---- resources
@@ -87,11 +89,19 @@ mutual
   shape_same (Int t) = rw (term_same t) refl
   shape_same (End r) = rw (reference_same r) refl
   shape_same (Pair' m a n b) = rw (boxed_res_same a, boxed_res_same b) refl
-  shape_same (Sum' m a n b) = rw (boxed_res_same a, boxed_res_same b) refl
+  shape_same (Sum' m arms) = rw (row_of_res_same arms) refl
 
   boxed_res_same : {m : _} (r : Row_of-Res m) → boxed_res (e.boxed_res r) ≡ boxed_res r
   boxed_res_same end_of-Res = refl
   boxed_res_same (more_of-Res b s rest) = rw (before_same b.names b.limits, shape_same s) refl
+
+  row_of_res_same : {m : _} (r : Row_of-Res m) → row_of_res (e.boxed_res r) ≡ row_of_res r
+  row_of_res_same end_of-Res = refl
+  row_of_res_same (more_of-Res b s rest) = rw (before_same b.names b.limits, shape_same s, res_behind_same rest) refl
+
+  res_behind_same : {m : _} (r : Row_of-Res m) → res_behind (e.boxed_res r) ≡ res_behind r
+  res_behind_same end_of-Res = refl
+  res_behind_same (more_of-Res b s rest) = rw (before_same b.names b.limits, shape_same s, res_behind_same rest) refl
 
 pub res_same : (r : Res) → res (e.res r) ≡ res r
 unfolding res
@@ -109,8 +119,7 @@ mutual
   pub value_same : (v : Supply) → value (e.value v) ≡ value v
   value_same SupplyUnit = refl
   value_same (SupplyPair' m a n b) = rw (boxed_value_same a, boxed_value_same b) refl
-  value_same (Left' m a) = rw (boxed_value_same a) refl
-  value_same (Right' m a) = rw (boxed_value_same a) refl
+  value_same (Arm' i m a) = rw (boxed_value_same a) refl
   value_same (SupplySum t) = term_same t
 
   boxed_value_same : {m : _} (r : Row_of-Supply m) → boxed_value (e.boxed_value r) ≡ boxed_value r

@@ -1,5 +1,5 @@
 -- Places change no word of a statement, a block or a program.
-use Rattle.std.proofs.Common.{◌≡◌, ℕ, ◌+◌, List, [], ◌∷◌, map, Option, Some, None, refl, ap}
+use Rattle.std.proofs.Common.{◌≡◌, ℕ, suc, ◌+◌, List, [], ◌∷◌, map, Option, Some, None, refl, ap}
 use Rattle.std.specs.Option.{option_map}
 use Rattle.chan_syntax.specs.declared.linear.Term.{Term}
 use Rattle.chan_syntax.specs.declared.linear.Bound.{Bound}
@@ -13,7 +13,7 @@ use Rattle.chan_syntax.specs.declared.operands.Letter.{Letter}
 use Rattle.chan_syntax.specs.declared.operands.Proof.{Proof}
 use Rattle.chan_syntax.specs.declared.surface_tree.Start.{Start}
 use Rattle.chan_syntax.specs.declared.surface_tree.Stmt.{Stmt, Let, Mul, Div, Rem, Call, Fork, ForkDo', Send1, Recv1, Send, Recv, Close, Wait, Choose, Split, Print, Row_of-Stmt, end_of-Stmt, more_of-Stmt}
-use Rattle.chan_syntax.specs.declared.surface_tree.Last.{Last, Ret, Tail, If', Match', Branch', Absurd, Loop', Again, Row_of-Last, end_of-Last, more_of-Last}
+use Rattle.chan_syntax.specs.declared.surface_tree.Last.{Last, Ret, Tail, If', Match', Branch', Absurd, Loop', Again, Row_of-Last, end_of-Last, more_of-Last, Row_of-SurfaceArm, end_of-SurfaceArm, more_of-SurfaceArm, Row_of-Block, end_of-Block, more_of-Block}
 use Rattle.chan_syntax.specs.declared.surface_tree.Block.{Block}
 use Rattle.chan_syntax.specs.declared.surface_tree.Body.{Body}
 use Rattle.chan_syntax.specs.declared.surface_tree.Body.TheVariants as body
@@ -22,8 +22,8 @@ use Rattle.chan_syntax.specs.declared.surface_tree.Decl.TheVariants as decl
 use Rattle.chan_syntax.specs.declared.surface_tree.Surface.{Surface}
 use Rattle.surface_spelling.specs.Layout.{step, bytes}
 use Rattle.surface_spelling.specs.Operands.{pat, two_pats, param}
-use Rattle.surface_spelling.specs.Blocks.{call, access, target, start, name_and_binds, header, result_behind, task_head, loop_head, let_fork, sent, at_most, condition, arm_head, branch_head, stmt, last, row_of_stmts, boxed_last, stmts, block}
-use Rattle.surface_spelling.specs.Spelling.{then_ref, two_refs, alternatives, plain, pbody, proto, func_head, func, declaration, declarations, program, spelling}
+use Rattle.surface_spelling.specs.Blocks.{call, access, target, start, name_and_binds, header, result_behind, task_head, loop_head, let_fork, sent, at_most, condition, arm_head, branch_head, stmt, last, row_of_stmts, row_of_arms, row_of_blocks, row_behind_else, boxed_last, stmts, block}
+use Rattle.surface_spelling.specs.Spelling.{then_ref, two_refs, refs_behind, alternatives, plain, pbody, proto, func_head, func, declaration, declarations, program, spelling}
 use Rattle.surface_spelling.specs.Erased as e
 use Rattle.surface_spelling.proofs.Places.{listed_same, behind_same, term_same, binds_behind_same, reference_same, res_same, param_same, value_same, values_same, proof_same, start_same}
 
@@ -88,7 +88,7 @@ mutual
   stmt_same d (Recv a b ns ss c x p y q z) = rw (access_same c p q) refl
   stmt_same d (Close c x p y q z) = rw (access_same c p q) refl
   stmt_same d (Wait c x p y q z) = rw (access_same c p q) refl
-  stmt_same d (Choose right n x c y r p z q w) = rw (target_same c r p, proof_same q) refl
+  stmt_same d (Choose i n x c y r p z q w) = rw (target_same c r p, proof_same q) refl
   stmt_same d (Split a b n x y) = refl
   stmt_same d (Print t x) = rw (term_same t) refl
 
@@ -96,8 +96,8 @@ mutual
   last_same d (Ret v q x) = rw (sent_same v q) refl
   last_same d (Tail f x vs q y) = rw (call_same f vs q) refl
   last_same d (If' a b m ss k l m' ss' k' l' x) = rw (condition_same a b, row_same (d + step) ss, boxed_last_same (d + step) l, row_same (d + step) ss', boxed_last_same (d + step) l') refl
-  last_same d (Match' n x p m ss k l q m' ss' k' l' y) = rw (row_same (d + step + step) ss, boxed_last_same (d + step + step) l, row_same (d + step + step) ss', boxed_last_same (d + step + step) l') refl
-  last_same d (Branch' c x p y q b z r w m ss k l m' ss' k' l' u) = rw (branch_same c p q b r, row_same (d + step) ss, boxed_last_same (d + step) l, row_same (d + step) ss', boxed_last_same (d + step) l') refl
+  last_same d (Match' n x m arms y) = rw (arms_same (d + step) 0 arms) refl
+  last_same d (Branch' c x p y q b z r w m blocks u) = rw (branch_same c p q b r, blocks_same d blocks) refl
   last_same d (Absurd q x) = rw (proof_same q) refl
   last_same d (Loop' n x b xs r q m ss k l y) = rw (loop_same n b xs r q, row_same (d + step) ss, boxed_last_same (d + step) l) refl
   last_same d (Again vs q x) = rw (values_same vs, proof_same q) refl
@@ -105,6 +105,18 @@ mutual
   row_same : {m : _} (d : ℕ) (r : Row_of-Stmt m) → row_of_stmts d (e.row_of_stmts r) ≡ row_of_stmts d r
   row_same d end_of-Stmt = refl
   row_same d (more_of-Stmt x rest) = rw (stmt_same d x, row_same d rest) refl
+
+  arms_same : {m : _} (d i : ℕ) (r : Row_of-SurfaceArm m) → row_of_arms d i (e.row_of_arms r) ≡ row_of_arms d i r
+  arms_same d i end_of-SurfaceArm = refl
+  arms_same d i (more_of-SurfaceArm p m ss k l rest) = rw (row_same (d + step) ss, boxed_last_same (d + step) l, arms_same d (suc i) rest) refl
+
+  blocks_same : {m : _} (d : ℕ) (r : Row_of-Block m) → row_of_blocks d (e.row_of_blocks r) ≡ row_of_blocks d r
+  blocks_same d end_of-Block = refl
+  blocks_same d (more_of-Block m ss k l rest) = rw (row_same (d + step) ss, boxed_last_same (d + step) l, else_same d rest) refl
+
+  else_same : {m : _} (d : ℕ) (r : Row_of-Block m) → row_behind_else d (e.row_of_blocks r) ≡ row_behind_else d r
+  else_same d end_of-Block = refl
+  else_same d (more_of-Block m ss k l rest) = rw (row_same (d + step) ss, boxed_last_same (d + step) l, else_same d rest) refl
 
   boxed_last_same : {m : _} (d : ℕ) (r : Row_of-Last m) → boxed_last d (e.boxed_last r) ≡ boxed_last d r
   boxed_last_same d end_of-Last = refl
@@ -134,10 +146,20 @@ plain_same equation.Close = refl
 plain_same equation.Wait = refl
 plain_same (equation.Branch a b this other) = rw (condition_same a b, reference_same this, reference_same other) refl
 
+refs_same : (rs : List Ref) → refs_behind (map e.reference rs) ≡ refs_behind rs
+unfolding refs_behind
+refs_same [] = refl
+refs_same (r ∷ rs) = rw (reference_same r, refs_same rs) refl
+
+alternatives_same : (rs : List Ref) → alternatives (map e.reference rs) ≡ alternatives rs
+unfolding alternatives
+alternatives_same [] = refl
+alternatives_same (r ∷ rs) = rw (reference_same r, refs_same rs) refl
+
 body_same : (x : Body) → pbody (e.pbody x) ≡ pbody x
-unfolding pbody alternatives
+unfolding pbody
 body_same (body.Plain x) = plain_same x
-body_same (body.Choice offer n at a b) = rw (reference_same a, reference_same b) refl
+body_same (body.Choice offer n at refs) = rw (alternatives_same refs) refl
 
 declaration_same : (x : Decl) → declaration (e.declaration x) ≡ declaration x
 unfolding declaration proto func func_head header

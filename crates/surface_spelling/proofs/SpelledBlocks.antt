@@ -1,9 +1,9 @@
 -- The words of statements and of how blocks end, by their variants.
-use Rattle.std.proofs.Common.{◌≡◌, ℕ, ◌+◌, Bool, if◌then◌else◌, codes, List, [], ◌∷◌, ◌++◌, Option, refl, ap}
+use Rattle.std.proofs.Common.{◌≡◌, ℕ, suc, ◌+◌, codes, List, [], ◌∷◌, ◌++◌, Option, refl, ap}
 use denote.Hole.Carrier.{hidden}
 use mathlib.Core.Former.{this, list_count, list_put}
 use mathlib.Core.List.{map}
-use Rattle.chan_syntax.specs.declared.identifiers.Span.{Span}
+use Rattle.chan_base.specs.declared.spans.Span.{Span}
 use Rattle.chan_syntax.specs.declared.linear.Term.{Term}
 use Rattle.chan_syntax.specs.declared.linear.Bound.{Bound}
 use Rattle.chan_syntax.specs.declared.resources.Ref.{Ref}
@@ -17,11 +17,12 @@ use Rattle.chan_syntax.specs.declared.surface_tree.Start.{Start}
 use Rattle.chan_syntax.specs.declared.surface_tree.Stmt.{Stmt}
 use Rattle.chan_syntax.specs.declared.surface_tree.Stmt.TheVariants as s
 use Rattle.chan_syntax.specs.declared.surface_tree.Last.TheVariants as l
-use Rattle.chan_syntax.specs.declared.surface_tree.Last.TheBlock.{hidden-the_row-Stmt-0, hidden-the_row-Last-1, back-the_row-Stmt}
+use Rattle.chan_syntax.specs.declared.surface_tree.Last.TheBlock.{hidden-the_row-Stmt-0, hidden-the_row-Last-1, hidden-the_row-SurfaceArm-2, hidden-the_row-Block-3, back-the_row-Stmt, back-the_row-SurfaceArm, back-the_row-Block}
+use Rattle.chan_syntax.specs.declared.surface_tree.SurfaceArm.{SurfaceArm}
 use Rattle.chan_syntax.specs.declared.surface_tree.Block.{Block}
 use Rattle.surface_spelling.specs.Layout.{keyword, mark, name, number, space, step, line, closing, in_braces, pair}
 use Rattle.surface_spelling.specs.Operands.{term, values, names_behind, pat, two_pats, path, proof}
-use Rattle.surface_spelling.specs.Blocks.{let_is, call, access, target, task_head, loop_head, let_fork, sent, condition, match_head, arm_head, branch_head, stmt, last, row_of_stmts, boxed_last, stmts, block}
+use Rattle.surface_spelling.specs.Blocks.{let_is, call, access, target, task_head, loop_head, let_fork, sent, condition, match_head, arm_head, branch_head, chosen, stmt, last, row_of_stmts, row_of_arms, row_of_blocks, row_behind_else, boxed_last, stmts, block, arms, behind_else, blocks}
 
 stmts_row : (d : ℕ) (xs : List Stmt) → row_of_stmts d (back-the_row-Stmt (list_count (this {0}) (map ((this {0}).shape Stmt) xs) 0) (list_put (this {0}) Stmt xs 0 (tt {0}))) ≡ stmts d xs
 unfolding row_of_stmts stmts
@@ -84,9 +85,9 @@ pub stmt_wait : (d : ℕ) (c : List ℕ) (at : Span) (p : List Letter) (bt : Opt
 unfolding stmt
 stmt_wait d c at p bt q ct = refl
 
-pub stmt_choose : (d : ℕ) (right : Bool) (n : List ℕ) (at : Span) (c : List ℕ) (bt : Span) (r : Ref) (p : List Letter) (ct : Option Span) (q : Proof) (dt : Span) → stmt d (s.Choose right n at c bt r p ct q dt) ≡ let_is (name n ∷ []) ++ (if right then keyword (codes "right") else keyword (codes "left")) ∷ space ∷ target c r p ++ proof q
+pub stmt_choose : (d : ℕ) (i : ℕ) (n : List ℕ) (at : Span) (c : List ℕ) (bt : Span) (r : Ref) (p : List Letter) (ct : Option Span) (q : Proof) (dt : Span) → stmt d (s.Choose i n at c bt r p ct q dt) ≡ let_is (name n ∷ []) ++ chosen i ++ space ∷ target c r p ++ proof q
 unfolding stmt
-stmt_choose d right n at c bt r p ct q dt = refl
+stmt_choose d i n at c bt r p ct q dt = refl
 
 pub stmt_split : (d : ℕ) (x : Pat) (y : Pat) (n : List ℕ) (at : Span) (bt : Span) → stmt d (s.Split x y n at bt) ≡ let_is (two_pats x y) ++ name n ∷ []
 unfolding stmt
@@ -108,13 +109,28 @@ pub last_if : (d : ℕ) (a : Term) (b : Term) (then_block : Block) (else_block :
 unfolding hidden hidden-the_row-Stmt-0 hidden-the_row-Last-1 stmt last row_of_stmts boxed_last block
 last_if d a b then_block else_block at = rw (stmts_row (d + step) then_block.stmts, stmts_row (d + step) else_block.stmts) refl
 
-pub last_match : (d : ℕ) (n : List ℕ) (at : Span) (p : Pat) (then_block : Block) (q : Pat) (else_block : Block) (bt : Span) → last d (l.Match n at p then_block q else_block bt) ≡ match_head n ++ arm_head (d + step) (codes "inl") p ++ block (d + step) then_block ++ arm_head (d + step) (codes "inr") q ++ block (d + step) else_block ++ closing d
-unfolding hidden hidden-the_row-Stmt-0 hidden-the_row-Last-1 stmt last row_of_stmts boxed_last block
-last_match d n at p then_block q else_block bt = rw (stmts_row (d + step + step) then_block.stmts, stmts_row (d + step + step) else_block.stmts) refl
+arms_row : (d i : ℕ) (xs : List SurfaceArm) → row_of_arms d i (back-the_row-SurfaceArm (list_count (this {0}) (map ((this {0}).shape SurfaceArm) xs) 0) (list_put (this {0}) SurfaceArm xs 0 (tt {0}))) ≡ arms d i xs
+unfolding hidden hidden-the_row-Stmt-0 hidden-the_row-Last-1 row_of_arms arms block
+arms_row d i [] = refl
+arms_row d i (x ∷ xs) = rw (stmts_row (d + step) x.block.stmts) (ap (λ ps. (arm_head d i x.pat ++ block d x.block) ++ ps) (arms_row d (suc i) xs))
 
-pub last_branch : (d : ℕ) (c : List ℕ) (at : Span) (p : List Letter) (bt : Option Span) (q : Proof) (b : List ℕ) (ct : Span) (z : List ℕ) (dt : Span) (then_block : Block) (else_block : Block) (et : Span) → last d (l.Branch c at p bt q b ct z dt then_block else_block et) ≡ branch_head c p q b z ++ block d then_block ++ space ∷ keyword (codes "else") ∷ space ∷ block d else_block
-unfolding hidden hidden-the_row-Stmt-0 hidden-the_row-Last-1 stmt last row_of_stmts boxed_last block
-last_branch d c at p bt q b ct z dt then_block else_block et = rw (stmts_row (d + step) then_block.stmts, stmts_row (d + step) else_block.stmts) refl
+pub last_match : (d : ℕ) (n : List ℕ) (at : Span) (xs : List SurfaceArm) (bt : Span) → last d (l.Match n at xs bt) ≡ match_head n ++ arms (d + step) 0 xs ++ closing d
+unfolding hidden hidden-the_row-SurfaceArm-2 last
+last_match d n at xs bt = rw (arms_row (d + step) 0 xs) refl
+
+else_row : (d : ℕ) (bs : List Block) → row_behind_else d (back-the_row-Block (list_count (this {0}) (map ((this {0}).shape Block) bs) 0) (list_put (this {0}) Block bs 0 (tt {0}))) ≡ behind_else d bs
+unfolding hidden hidden-the_row-Stmt-0 hidden-the_row-Last-1 row_behind_else behind_else block
+else_row d [] = refl
+else_row d (b ∷ bs) = rw (stmts_row (d + step) b.stmts) (ap (λ ps. (space ∷ keyword (codes "else") ∷ space ∷ block d b) ++ ps) (else_row d bs))
+
+blocks_row : (d : ℕ) (bs : List Block) → row_of_blocks d (back-the_row-Block (list_count (this {0}) (map ((this {0}).shape Block) bs) 0) (list_put (this {0}) Block bs 0 (tt {0}))) ≡ blocks d bs
+unfolding hidden hidden-the_row-Stmt-0 hidden-the_row-Last-1 row_of_blocks blocks block
+blocks_row d [] = refl
+blocks_row d (b ∷ bs) = rw (stmts_row (d + step) b.stmts) (ap (λ ps. block d b ++ ps) (else_row d bs))
+
+pub last_branch : (d : ℕ) (c : List ℕ) (at : Span) (p : List Letter) (bt : Option Span) (q : Proof) (b : List ℕ) (ct : Span) (z : List ℕ) (dt : Span) (bs : List Block) (et : Span) → last d (l.Branch c at p bt q b ct z dt bs et) ≡ branch_head c p q b z ++ blocks d bs
+unfolding hidden hidden-the_row-Block-3 last
+last_branch d c at p bt q b ct z dt bs et = rw (blocks_row d bs) refl
 
 pub last_absurd : (d : ℕ) (q : Proof) (at : Span) → last d (l.Absurd q at) ≡ keyword (codes "absurd") ∷ proof q
 unfolding last

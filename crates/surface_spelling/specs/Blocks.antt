@@ -1,5 +1,5 @@
 -- The words of statements, of how blocks end, and of blocks.
-use Rattle.std.specs.Prelude.{ℕ, ◌+◌, if◌then◌else◌, codes, List, [], ◌∷◌, ◌++◌}
+use Rattle.std.specs.Prelude.{ℕ, suc, ◌+◌, ◌==◌, if◌then◌else◌, codes, List, [], ◌∷◌, ◌++◌}
 use Rattle.chan_syntax.specs.declared.linear.Term.{Term}
 use Rattle.chan_syntax.specs.declared.linear.Bound.{Bound}
 use Rattle.chan_syntax.specs.declared.resources.Res.{Res}
@@ -11,11 +11,12 @@ use Rattle.chan_syntax.specs.declared.operands.Letter.{Letter}
 use Rattle.chan_syntax.specs.declared.operands.Proof.{Proof}
 use Rattle.chan_syntax.specs.declared.surface_tree.Start.{Start}
 use Rattle.chan_syntax.specs.declared.surface_tree.Stmt.{Stmt, Let, Mul, Div, Rem, Call, Fork, ForkDo', Send1, Recv1, Send, Recv, Close, Wait, Choose, Split, Print, Row_of-Stmt, end_of-Stmt, more_of-Stmt}
-use Rattle.chan_syntax.specs.declared.surface_tree.Last.{Last, Ret, Tail, If', Match', Branch', Absurd, Loop', Again, Row_of-Last, end_of-Last, more_of-Last}
+use Rattle.chan_syntax.specs.declared.surface_tree.Last.{Last, Ret, Tail, If', Match', Branch', Absurd, Loop', Again, Row_of-Last, end_of-Last, more_of-Last, Row_of-SurfaceArm, end_of-SurfaceArm, more_of-SurfaceArm, Row_of-Block, end_of-Block, more_of-Block}
+use Rattle.chan_syntax.specs.declared.surface_tree.SurfaceArm.{SurfaceArm}
 use Rattle.chan_syntax.specs.declared.surface_tree.Block.{Block}
 use Rattle.text_tokens.specs.Text.{Piece}
 use Rattle.surface_spelling.specs.Layout.{keyword, mark, name, number, space, step, line, behind_commas, listed, in_parens, pair, closing, in_braces}
-use Rattle.surface_spelling.specs.Operands.{term, reference, shape, res, binds_behind, param, value, values, names_behind, pat, two_pats, path, proof}
+use Rattle.surface_spelling.specs.Operands.{term, reference, shape, res, binds_behind, param, value, values, names_behind, pat, two_pats, path, proof, tag}
 
 -- "let" what is bound "=", and the space behind it
 unfoldable pub let_is : List Piece → List Piece
@@ -77,9 +78,14 @@ condition a b = keyword (codes "if") ∷ space ∷ at_most a b ++ space ∷ []
 unfoldable pub match_head : List ℕ → List Piece
 match_head n = keyword (codes "match") ∷ space ∷ name n ∷ space ∷ mark (codes "{") ∷ []
 
--- ("inl" | "inr") pat on a line of its own at this depth, and the space behind it
-unfoldable pub arm_head : ℕ → List ℕ → Pat → List Piece
-arm_head d side p = line d ++ keyword side ∷ space ∷ pat p ++ space ∷ []
+-- tag pat on a line of its own at this depth, and the space behind it
+unfoldable pub arm_head : ℕ → ℕ → Pat → List Piece
+arm_head d i p = line d ++ tag i ++ space ∷ pat p ++ space ∷ []
+
+-- "left" | "right" | "#" NUMBER
+unfoldable pub chosen : ℕ → List Piece
+chosen i =
+    if i == 0 then keyword (codes "left") ∷ [] else if i == 1 then keyword (codes "right") ∷ [] else mark (codes "#") ∷ number i ∷ []
 
 -- "as" NAME "," NAME, between spaces
 unfoldable pub as_names : List ℕ → List ℕ → List Piece
@@ -106,8 +112,7 @@ unfoldable mutual
   stmt d (Recv x y ns _ c _ p _ q _) = let_is (two_pats x y ++ names_behind ns) ++ keyword (codes "recv") ∷ space ∷ access c p q
   stmt d (Close c _ p _ q _) = keyword (codes "close") ∷ space ∷ access c p q
   stmt d (Wait c _ p _ q _) = keyword (codes "wait") ∷ space ∷ access c p q
-  stmt d (Choose right n _ c _ r p _ q _) =
-      let_is (name n ∷ []) ++ (if right then keyword (codes "right") else keyword (codes "left")) ∷ space ∷ target c r p ++ proof q
+  stmt d (Choose i n _ c _ r p _ q _) = let_is (name n ∷ []) ++ chosen i ++ space ∷ target c r p ++ proof q
   stmt d (Split x y n _ _) = let_is (two_pats x y) ++ name n ∷ []
   stmt d (Print t _) = keyword (codes "print") ∷ space ∷ term t
 
@@ -116,13 +121,8 @@ unfoldable mutual
   last d (Tail f _ vs q _) = call f vs q
   last d (If' a b _ ss _ l _ ss' _ l' _) =
       condition a b ++ in_braces d (row_of_stmts (d + step) ss ++ boxed_last (d + step) l) ++ space ∷ keyword (codes "else") ∷ space ∷ in_braces d (row_of_stmts (d + step) ss' ++ boxed_last (d + step) l')
-  last d (Match' n _ p _ ss _ l q _ ss' _ l' _) =
-      match_head n
-      ++ arm_head (d + step) (codes "inl") p ++ in_braces (d + step) (row_of_stmts (d + step + step) ss ++ boxed_last (d + step + step) l)
-      ++ arm_head (d + step) (codes "inr") q ++ in_braces (d + step) (row_of_stmts (d + step + step) ss' ++ boxed_last (d + step + step) l')
-      ++ closing d
-  last d (Branch' c _ p _ q b _ z _ _ ss _ l _ ss' _ l' _) =
-      branch_head c p q b z ++ in_braces d (row_of_stmts (d + step) ss ++ boxed_last (d + step) l) ++ space ∷ keyword (codes "else") ∷ space ∷ in_braces d (row_of_stmts (d + step) ss' ++ boxed_last (d + step) l')
+  last d (Match' n _ _ arms _) = match_head n ++ row_of_arms (d + step) 0 arms ++ closing d
+  last d (Branch' c _ p _ q b _ z _ _ blocks _) = branch_head c p q b z ++ row_of_blocks d blocks
   last d (Absurd q _) = keyword (codes "absurd") ∷ proof q
   last d (Loop' n _ b xs r q _ ss _ l _) =
       keyword (codes "loop") ∷ space ∷ loop_head n b xs r q ++ in_braces d (row_of_stmts (d + step) ss ++ boxed_last (d + step) l)
@@ -132,6 +132,23 @@ unfoldable mutual
   pub row_of_stmts : {m : _} → ℕ → Row_of-Stmt m → List Piece
   row_of_stmts d end_of-Stmt = []
   row_of_stmts d (more_of-Stmt x rest) = line d ++ stmt d x ++ mark (codes ";") ∷ row_of_stmts d rest
+
+  -- { tag pat block } from an arm on, each on lines of its own at this depth
+  pub row_of_arms : {m : _} → ℕ → ℕ → Row_of-SurfaceArm m → List Piece
+  row_of_arms d i end_of-SurfaceArm = []
+  row_of_arms d i (more_of-SurfaceArm p _ ss _ l rest) =
+      (arm_head d i p ++ in_braces d (row_of_stmts (d + step) ss ++ boxed_last (d + step) l)) ++ row_of_arms d (suc i) rest
+
+  -- block { "else" block }
+  pub row_of_blocks : {m : _} → ℕ → Row_of-Block m → List Piece
+  row_of_blocks d end_of-Block = []
+  row_of_blocks d (more_of-Block _ ss _ l rest) = in_braces d (row_of_stmts (d + step) ss ++ boxed_last (d + step) l) ++ row_behind_else d rest
+
+  -- { "else" block }
+  pub row_behind_else : {m : _} → ℕ → Row_of-Block m → List Piece
+  row_behind_else d end_of-Block = []
+  row_behind_else d (more_of-Block _ ss _ l rest) =
+      (space ∷ keyword (codes "else") ∷ space ∷ in_braces d (row_of_stmts (d + step) ss ++ boxed_last (d + step) l)) ++ row_behind_else d rest
 
   -- what a box holds, on a line of its own at this depth
   pub boxed_last : {m : _} → ℕ → Row_of-Last m → List Piece
@@ -146,3 +163,18 @@ stmts d (x ∷ xs) = line d ++ stmt d x ++ mark (codes ";") ∷ stmts d xs
 -- block = "{" { stmt ";" } last "}"
 unfoldable pub block : ℕ → Block → List Piece
 block d b = in_braces d (stmts (d + step) b.stmts ++ (line (d + step) ++ last (d + step) b.last))
+
+-- { tag pat block } from an arm on
+unfoldable pub arms : ℕ → ℕ → List SurfaceArm → List Piece
+arms d i [] = []
+arms d i (x ∷ xs) = (arm_head d i x.pat ++ block d x.block) ++ arms d (suc i) xs
+
+-- { "else" block }
+unfoldable pub behind_else : ℕ → List Block → List Piece
+behind_else d [] = []
+behind_else d (b ∷ bs) = (space ∷ keyword (codes "else") ∷ space ∷ block d b) ++ behind_else d bs
+
+-- block { "else" block }
+unfoldable pub blocks : ℕ → List Block → List Piece
+blocks d [] = []
+blocks d (b ∷ bs) = block d b ++ behind_else d bs

@@ -1,7 +1,7 @@
 -- Trees without the places of their parts.
 use Rattle.std.specs.Prelude.{List, map, Option, None}
 use Rattle.std.specs.Option.{option_map}
-use Rattle.chan_syntax.specs.declared.identifiers.Span.{Span}
+use Rattle.chan_base.specs.declared.spans.Span.{Span}
 use Rattle.chan_syntax.specs.declared.linear.Part.{Part}
 use Rattle.chan_syntax.specs.declared.linear.Term.{Term}
 use Rattle.chan_syntax.specs.declared.linear.Limit.{Limit}
@@ -12,14 +12,14 @@ use Rattle.chan_syntax.specs.declared.resources.Res.{Res, roll-Res}
 use Rattle.chan_syntax.specs.declared.resources.Param.{Param}
 use Rattle.chan_syntax.specs.declared.resources.Equation.{Equation}
 use Rattle.chan_syntax.specs.declared.resources.Equation.TheVariants as equation
-use Rattle.chan_syntax.specs.declared.operands.Supply.{Supply, Unit as SupplyUnit, Pair' as SupplyPair', Left', Right', Sum as SupplySum, Row_of-Supply, end_of-Supply, more_of-Supply}
+use Rattle.chan_syntax.specs.declared.operands.Supply.{Supply, Unit as SupplyUnit, Pair' as SupplyPair', Arm', Sum as SupplySum, Row_of-Supply, end_of-Supply, more_of-Supply}
 use Rattle.chan_syntax.specs.declared.operands.Pat.{Pat}
 use Rattle.chan_syntax.specs.declared.operands.WrittenMention.{WrittenMention}
 use Rattle.chan_syntax.specs.declared.operands.WrittenCert.{WrittenCert}
 use Rattle.chan_syntax.specs.declared.operands.Proof.{Proof}
 use Rattle.chan_syntax.specs.declared.surface_tree.Start.{Start}
 use Rattle.chan_syntax.specs.declared.surface_tree.Stmt.{Stmt, Let, Mul, Div, Rem, Call, Fork, ForkDo', Send1, Recv1, Send, Recv, Close, Wait, Choose, Split, Print, Row_of-Stmt, end_of-Stmt, more_of-Stmt}
-use Rattle.chan_syntax.specs.declared.surface_tree.Last.{Last, Ret, Tail, If', Match', Branch', Absurd, Loop', Again, Row_of-Last, end_of-Last, more_of-Last}
+use Rattle.chan_syntax.specs.declared.surface_tree.Last.{Last, Ret, Tail, If', Match', Branch', Absurd, Loop', Again, Row_of-Last, end_of-Last, more_of-Last, Row_of-SurfaceArm, end_of-SurfaceArm, more_of-SurfaceArm, Row_of-Block, end_of-Block, more_of-Block}
 use Rattle.chan_syntax.specs.declared.surface_tree.Block.{Block, roll-Block}
 use Rattle.chan_syntax.specs.declared.surface_tree.Body.{Body}
 use Rattle.chan_syntax.specs.declared.surface_tree.Body.TheVariants as body
@@ -64,9 +64,9 @@ abbrev mutual
   shape (Int t) = Int (term t)
   shape (End r) = End (reference r)
   shape (Pair' m a n b) = Pair' m (boxed_res a) n (boxed_res b)
-  shape (Sum' m a n b) = Sum' m (boxed_res a) n (boxed_res b)
+  shape (Sum' m arms) = Sum' m (boxed_res arms)
 
-  -- what a box holds
+  -- what a box or a list holds
   pub boxed_res : {m : _} → Row_of-Res m → Row_of-Res m
   boxed_res end_of-Res = end_of-Res
   boxed_res (more_of-Res b s rest) = more_of-Res (bound b) (shape s) (boxed_res rest)
@@ -83,8 +83,7 @@ abbrev mutual
   pub value : Supply → Supply
   value SupplyUnit = SupplyUnit
   value (SupplyPair' m a n b) = SupplyPair' m (boxed_value a) n (boxed_value b)
-  value (Left' m a) = Left' m (boxed_value a)
-  value (Right' m a) = Right' m (boxed_value a)
+  value (Arm' i m a) = Arm' i m (boxed_value a)
   value (SupplySum t) = SupplySum (term t)
 
   -- what a box holds
@@ -125,7 +124,7 @@ abbrev mutual
   stmt (Recv x y ns ss c _ p s q _) = Recv (pat x) (pat y) ns (places ss) c nowhere p (place s) (proof q) nowhere
   stmt (Close c _ p s q _) = Close c nowhere p (place s) (proof q) nowhere
   stmt (Wait c _ p s q _) = Wait c nowhere p (place s) (proof q) nowhere
-  stmt (Choose right n _ c _ r p s q _) = Choose right n nowhere c nowhere (reference r) p (place s) (proof q) nowhere
+  stmt (Choose i n _ c _ r p s q _) = Choose i n nowhere c nowhere (reference r) p (place s) (proof q) nowhere
   stmt (Split x y n _ _) = Split (pat x) (pat y) n nowhere nowhere
   stmt (Print t _) = Print (term t) nowhere
 
@@ -133,9 +132,8 @@ abbrev mutual
   last (Ret v q _) = Ret (value v) (proof q) nowhere
   last (Tail f _ vs q _) = Tail f nowhere (map value vs) (proof q) nowhere
   last (If' a b m ss k l m' ss' k' l' _) = If' (term a) (term b) m (row_of_stmts ss) k (boxed_last l) m' (row_of_stmts ss') k' (boxed_last l') nowhere
-  last (Match' n _ p m ss k l q m' ss' k' l' _) = Match' n nowhere (pat p) m (row_of_stmts ss) k (boxed_last l) (pat q) m' (row_of_stmts ss') k' (boxed_last l') nowhere
-  last (Branch' c _ p s q b _ z _ m ss k l m' ss' k' l' _) =
-      Branch' c nowhere p (place s) (proof q) b nowhere z nowhere m (row_of_stmts ss) k (boxed_last l) m' (row_of_stmts ss') k' (boxed_last l') nowhere
+  last (Match' n _ m arms _) = Match' n nowhere m (row_of_arms arms) nowhere
+  last (Branch' c _ p s q b _ z _ m blocks _) = Branch' c nowhere p (place s) (proof q) b nowhere z nowhere m (row_of_blocks blocks) nowhere
   last (Absurd q _) = Absurd (proof q) nowhere
   last (Loop' n _ b xs r q m ss k l _) = Loop' n nowhere (bound b) (map start xs) (res r) (proof q) m (row_of_stmts ss) k (boxed_last l) nowhere
   last (Again vs q _) = Again (map value vs) (proof q) nowhere
@@ -144,6 +142,14 @@ abbrev mutual
   pub row_of_stmts : {m : _} → Row_of-Stmt m → Row_of-Stmt m
   row_of_stmts end_of-Stmt = end_of-Stmt
   row_of_stmts (more_of-Stmt x rest) = more_of-Stmt (stmt x) (row_of_stmts rest)
+
+  pub row_of_arms : {m : _} → Row_of-SurfaceArm m → Row_of-SurfaceArm m
+  row_of_arms end_of-SurfaceArm = end_of-SurfaceArm
+  row_of_arms (more_of-SurfaceArm p m ss k l rest) = more_of-SurfaceArm (pat p) m (row_of_stmts ss) k (boxed_last l) (row_of_arms rest)
+
+  pub row_of_blocks : {m : _} → Row_of-Block m → Row_of-Block m
+  row_of_blocks end_of-Block = end_of-Block
+  row_of_blocks (more_of-Block m ss k l rest) = more_of-Block m (row_of_stmts ss) k (boxed_last l) (row_of_blocks rest)
 
   -- what a box holds
   pub boxed_last : {m : _} → Row_of-Last m → Row_of-Last m
@@ -164,7 +170,7 @@ plain (equation.Branch a b this other) = equation.Branch (term a) (term b) (refe
 
 abbrev pub pbody : Body → Body
 pbody (body.Plain e) = body.Plain (plain e)
-pbody (body.Choice offer n _ a b) = body.Choice offer n nowhere (reference a) (reference b)
+pbody (body.Choice offer n _ refs) = body.Choice offer n nowhere (map reference refs)
 
 abbrev pub declaration : Decl → Decl
 declaration (decl.Proto p) =

@@ -1,6 +1,5 @@
 -- The words of terms, references, resources, values, patterns, paths and proofs.
-use Rattle.std.specs.Prelude.{ℕ, ◌==◌, ℤ, pos, negsuc, suc, if◌then◌else◌, codes, List, [], ◌∷◌, ◌++◌, map, Option, Some, None}
-use Rattle.std.specs.Ordering.{int_eq}
+use Rattle.std.specs.Prelude.{ℕ, ◌==◌, pos, int_lt, unsigned_abs, Bool, ◌||◌, if◌then◌else◌, codes, List, [], ◌∷◌, ◌++◌, map, Option, Some, None}
 use Rattle.chan_syntax.specs.declared.linear.Part.{Part}
 use Rattle.chan_syntax.specs.declared.linear.Term.{Term}
 use Rattle.chan_syntax.specs.declared.linear.Relation.{Relation}
@@ -10,7 +9,7 @@ use Rattle.chan_syntax.specs.declared.resources.Ref.{Ref}
 use Rattle.chan_syntax.specs.declared.resources.Shape.{Shape, Unit, Int, End, Pair', Sum', Row_of-Res, end_of-Res, more_of-Res}
 use Rattle.chan_syntax.specs.declared.resources.Res.{Res}
 use Rattle.chan_syntax.specs.declared.resources.Param.{Param}
-use Rattle.chan_syntax.specs.declared.operands.Supply.{Supply, Unit as SupplyUnit, Pair' as SupplyPair', Left', Right', Sum as SupplySum, Row_of-Supply, end_of-Supply, more_of-Supply}
+use Rattle.chan_syntax.specs.declared.operands.Supply.{Supply, Unit as SupplyUnit, Pair' as SupplyPair', Arm', Sum as SupplySum, Row_of-Supply, end_of-Supply, more_of-Supply}
 use Rattle.chan_syntax.specs.declared.operands.Pat.{Pat}
 use Rattle.chan_syntax.specs.declared.operands.Letter.{Letter}
 use Rattle.chan_syntax.specs.declared.operands.Letter.TheVariants as letter
@@ -26,23 +25,22 @@ a_name n = name n ∷ []
 
 -- ---- term = ["-"] prod { ("+" | "-") prod }
 
--- a number; no text has a negative one
-unfoldable pub integer : ℤ → List Piece
-integer (pos n) = number n ∷ []
-integer (negsuc n) = mark (codes "-") ∷ number (suc n) ∷ []
-
 -- prod = NUMBER [ "*" NAME ] | NAME. A factor 1 and its "*" are not written before a NAME.
-unfoldable pub product : ℤ → Option (List ℕ) → List Piece
-product factor None = integer factor
-product factor (Some n) = if int_eq factor (pos 1) then a_name n else integer factor ++ mark (codes "*") ∷ name n ∷ []
+unfoldable pub product : ℕ → Option (List ℕ) → List Piece
+product factor None = number factor ∷ []
+product factor (Some n) = if factor == 1 then a_name n else number factor ∷ mark (codes "*") ∷ name n ∷ []
+
+-- a minus stands before the part; a factor below 0, which no text has, brings it too
+unfoldable pub has_minus : Part → Bool
+has_minus p = p.negative || int_lt p.factor (pos 0)
 
 -- ["-"] prod
 unfoldable pub first_part : Part → List Piece
-first_part p = if p.negative then mark (codes "-") ∷ product p.factor p.name else product p.factor p.name
+first_part p = (if has_minus p then mark (codes "-") ∷ [] else []) ++ product (unsigned_abs p.factor) p.name
 
 -- ("+" | "-") prod
 unfoldable pub next_part : Part → List Piece
-next_part p = space ∷ (if p.negative then mark (codes "-") else mark (codes "+")) ∷ space ∷ product p.factor p.name
+next_part p = space ∷ (if has_minus p then mark (codes "-") else mark (codes "+")) ∷ space ∷ product (unsigned_abs p.factor) p.name
 
 -- { ("+" | "-") prod }
 unfoldable pub more_parts : List Part → List Piece
@@ -78,14 +76,16 @@ limits (l ∷ ls) = mark (codes ":") ∷ space ∷ listed limit (l ∷ ls)
 unfoldable pub binds : List (List ℕ) → List Limit → List Piece
 binds names ls = in_brackets (listed a_name names ++ limits ls)
 
--- [ binds ] of a resource, with the space behind it
+-- [ binds ] of a resource, with the space behind it; a list of limits alone, which no text has, is written too
 unfoldable pub binds_before : List (List ℕ) → List Limit → List Piece
-binds_before [] ls = []
+binds_before [] [] = []
+binds_before [] (l ∷ ls) = binds [] (l ∷ ls) ++ space ∷ []
 binds_before (n ∷ ns) ls = binds (n ∷ ns) ls ++ space ∷ []
 
 -- [ binds ] of a header, with the space before it
 unfoldable pub binds_behind : List (List ℕ) → List Limit → List Piece
-binds_behind [] ls = []
+binds_behind [] [] = []
+binds_behind [] (l ∷ ls) = space ∷ binds [] (l ∷ ls)
 binds_behind (n ∷ ns) ls = space ∷ binds (n ∷ ns) ls
 
 -- ---- ref = ["~"] NAME "(" [terms] ")"
@@ -93,7 +93,7 @@ binds_behind (n ∷ ns) ls = space ∷ binds (n ∷ ns) ls
 unfoldable pub reference : Ref → List Piece
 reference r = (if r.dual then mark (codes "~") ∷ [] else []) ++ name r.name ∷ in_parens (listed term r.args)
 
--- ---- shape = "unit" | "int" "(" term ")" | "end" ref | "(" res "," res ")" | "sum" "(" res "," res ")"
+-- ---- shape = "unit" | "int" "(" term ")" | "end" ref | "(" res "," res ")" | "sum" "(" res "," res { "," res } ")"
 -- ---- res = [binds] shape
 
 unfoldable mutual
@@ -102,12 +102,22 @@ unfoldable mutual
   shape (Int t) = keyword (codes "int") ∷ in_parens (term t)
   shape (End r) = keyword (codes "end") ∷ space ∷ reference r
   shape (Pair' _ a _ b) = pair (boxed_res a) (boxed_res b)
-  shape (Sum' _ a _ b) = keyword (codes "sum") ∷ pair (boxed_res a) (boxed_res b)
+  shape (Sum' _ arms) = keyword (codes "sum") ∷ in_parens (row_of_res arms)
 
   -- the resource that a box holds
   pub boxed_res : {m : _} → Row_of-Res m → List Piece
   boxed_res end_of-Res = []
   boxed_res (more_of-Res b s rest) = binds_before b.names b.limits ++ shape s
+
+  -- the resources of a row, with commas between them
+  pub row_of_res : {m : _} → Row_of-Res m → List Piece
+  row_of_res end_of-Res = []
+  row_of_res (more_of-Res b s rest) = (binds_before b.names b.limits ++ shape s) ++ res_behind rest
+
+  -- each behind a comma
+  pub res_behind : {m : _} → Row_of-Res m → List Piece
+  res_behind end_of-Res = []
+  res_behind (more_of-Res b s rest) = mark (codes ",") ∷ space ∷ (binds_before b.names b.limits ++ shape s) ++ res_behind rest
 
 unfoldable pub res : Res → List Piece
 res r = binds_before r.bound.names r.bound.limits ++ shape r.shape
@@ -116,14 +126,19 @@ res r = binds_before r.bound.names r.bound.limits ++ shape r.shape
 unfoldable pub param : Param → List Piece
 param p = name p.name ∷ mark (codes ":") ∷ space ∷ shape p.shape
 
--- ---- value = "(" ")" | "(" value "," value ")" | "inl" value | "inr" value | term
+-- ---- value = "(" ")" | "(" value "," value ")" | tag value | term
+-- ---- tag = "inl" | "inr" | "#" NUMBER
+
+-- the tag of an arm
+unfoldable pub tag : ℕ → List Piece
+tag i =
+    if i == 0 then keyword (codes "inl") ∷ [] else if i == 1 then keyword (codes "inr") ∷ [] else mark (codes "#") ∷ number i ∷ []
 
 unfoldable mutual
   pub value : Supply → List Piece
   value SupplyUnit = in_parens []
   value (SupplyPair' _ a _ b) = pair (boxed_value a) (boxed_value b)
-  value (Left' _ a) = keyword (codes "inl") ∷ space ∷ boxed_value a
-  value (Right' _ a) = keyword (codes "inr") ∷ space ∷ boxed_value a
+  value (Arm' i _ a) = tag i ++ space ∷ boxed_value a
   value (SupplySum t) = term t
 
   -- the value that a box holds

@@ -20,7 +20,7 @@ use Rattle.surface_spelling.specs.Blocks.{header, result_behind, condition, bloc
 
 -- ---- pbody = ("send" | "recv") res [ "then" ref ] | "close" | "wait"
 -- ----       | "if" term "<=" term "then" ref "else" ref
--- ----       | ("choice" | "offer") NAME "of" ref "|" ref
+-- ----       | ("choice" | "offer") NAME "of" ref "|" ref { "|" ref }
 
 -- [ "then" ref ], with the space before it
 unfoldable pub then_ref : Option Ref → List Piece
@@ -31,9 +31,15 @@ then_ref (Some r) = space ∷ keyword (codes "then") ∷ space ∷ reference r
 unfoldable pub two_refs : Ref → Ref → List Piece
 two_refs a b = keyword (codes "then") ∷ space ∷ reference a ++ space ∷ keyword (codes "else") ∷ space ∷ reference b
 
--- ref "|" ref
-unfoldable pub alternatives : Ref → Ref → List Piece
-alternatives a b = reference a ++ space ∷ mark (codes "|") ∷ space ∷ reference b
+-- { "|" ref }
+unfoldable pub refs_behind : List Ref → List Piece
+refs_behind [] = []
+refs_behind (r ∷ rs) = (space ∷ mark (codes "|") ∷ space ∷ reference r) ++ refs_behind rs
+
+-- ref "|" ref { "|" ref }
+unfoldable pub alternatives : List Ref → List Piece
+alternatives [] = []
+alternatives (r ∷ rs) = reference r ++ refs_behind rs
 
 unfoldable pub plain : Equation → List Piece
 plain (equation.Send r next) = keyword (codes "send") ∷ space ∷ res r ++ then_ref next
@@ -44,8 +50,8 @@ plain (equation.Branch a b this other) = condition a b ++ two_refs this other
 
 unfoldable pub pbody : Body → List Piece
 pbody (body.Plain e) = plain e
-pbody (body.Choice offer n _ a b) =
-    (if offer then keyword (codes "offer") else keyword (codes "choice")) ∷ space ∷ name n ∷ space ∷ keyword (codes "of") ∷ space ∷ alternatives a b
+pbody (body.Choice offer n _ refs) =
+    (if offer then keyword (codes "offer") else keyword (codes "choice")) ∷ space ∷ name n ∷ space ∷ keyword (codes "of") ∷ space ∷ alternatives refs
 
 -- ---- declarations, each of which ends a line
 

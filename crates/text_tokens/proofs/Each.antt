@@ -4,7 +4,7 @@ use Rattle.std.specs.List.{All}
 use Rattle.std.proofs.lemmas.List.Elements.{All-cons, All-nil}
 use Rattle.std.proofs.Math.Nat.{add-sub_cancel_left}
 use Rattle.std.proofs.Math.Seq.{drop-append_seam, take-append_seam}
-use Rattle.chan_syntax.specs.declared.identifiers.Span.{Span}
+use Rattle.chan_base.specs.declared.spans.Span.{Span}
 use Rattle.text_tokens.specs.declared.TokenKind.{TokenKind}
 use Rattle.text_tokens.specs.declared.TokenKind.TheVariants.{Number}
 use Rattle.text_tokens.specs.Word.{HasForm, IsLongest}

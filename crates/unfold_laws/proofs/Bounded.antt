@@ -2,7 +2,7 @@
 use Rattle.std.proofs.Common.{◌≡◌, ℕ, zero, suc, ◌+◌, ◌<◌, ◌≤◌, ◌^◌, Bool, true, false, not, ◌||◌, nat_eq, nat_le, nat_lt, List, [], ◌∷◌, ◌++◌, All, map, length, Some, slice_get, unwrap_or, refl, arith}
 use Rattle.std.proofs.lemmas.Bool.{eqb-false, ltb-false, leb-true, or_parts, not-true}
 use Rattle.std.proofs.lemmas.List.Elements.{All-nil, All-cons}
-use Rattle.chan_syntax.specs.declared.identifiers.Span.{Span}
+use Rattle.chan_base.specs.declared.spans.Span.{Span}
 use Rattle.chan_syntax.specs.declared.operands.WrittenMention.{WrittenMention}
 use Rattle.chan_syntax.specs.declared.operands.WrittenCert.{WrittenCert}
 use Rattle.chan_syntax.specs.declared.operands.Proof.{Proof}
@@ -122,7 +122,7 @@ module _ (protos funcs : List Signature) (scope : List Known) where
   node_bounded (node.Print term next span) none = All-nil IsBounded
   node_bounded (node.If left right this other span) none = All-nil IsBounded
   node_bounded (node.Split first second name name_at next span) none = All-nil IsBounded
-  node_bounded (node.Match name name_at left this right other span) none = All-nil IsBounded
+  node_bounded (node.Match name name_at arms span) none = All-nil IsBounded
   node_bounded (node.Absurd proof span) none = proof_bounded scope proof none
   node_bounded (node.Ret value proof span) none = proof_bounded scope proof (none_right (supply_faults scope value) (proof_faults scope proof) none)
 

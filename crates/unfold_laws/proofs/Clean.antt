@@ -8,7 +8,7 @@ use Rattle.linear_forms.specs.Normal.{names_of}
 use Rattle.linear_forms.specs.Substitution.{scoped, terms_of_limit}
 use Rattle.linear_forms.proofs.SameNames.{same_is, same-self}
 use Rattle.linear_forms.proofs.Shorts.{all_map}
-use Rattle.chan_syntax.specs.declared.identifiers.Span.{Span}
+use Rattle.chan_base.specs.declared.spans.Span.{Span}
 use Rattle.chan_syntax.specs.declared.linear.Part.{Part}
 use Rattle.chan_syntax.specs.declared.linear.Term.{Term}
 use Rattle.chan_syntax.specs.declared.linear.Limit.{Limit}
@@ -21,7 +21,7 @@ use Rattle.form_faults.specs.declared.sorts.Sort.TheVariants as sort
 use Rattle.form_faults.specs.declared.sorts.Naming.TheVariants as naming
 use Rattle.form_faults.specs.declared.sorts.Known.{Known}
 use Rattle.form_faults.specs.Faults.{of_name, unless}
-use Rattle.form_faults.specs.Numbers.{is_narrow, is_narrow_limit}
+use Rattle.narrow_terms.specs.Numbers.{is_narrow, is_narrow_limit}
 use Rattle.form_faults.specs.Scopes.{sort_of, is_usable, unscoped, Binder, bind, bind_all, twice_all, binders, most_of, names_past}
 use Rattle.form_faults.specs.Terms.{name_faults, part_faults, parts_faults, term_faults, fixed_term_faults, fixed_terms_faults, limit_faults, limits_faults, limits_past, bound_binders, bound_scope, bound_faults}
 use Rattle.protocols.specs.Unfolding.{NamesOnly, NamesUnder}

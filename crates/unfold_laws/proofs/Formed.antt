@@ -5,8 +5,8 @@ use Rattle.std.proofs.lemmas.List.Elements.{All-nil, All-cons, All-append}
 use Rattle.std.proofs.lemmas.Bool.{eqb-true}
 use Rattle.core_language.specs.Names.{Ident, same}
 use Rattle.core_language.specs.Resources as resource
-use Rattle.linear_forms.specs.Substitution.{scoped, terms_of_limit, terms_of_shape, terms_of_res}
-use Rattle.chan_syntax.specs.declared.identifiers.Span.{Span}
+use Rattle.linear_forms.specs.Substitution.{scoped, terms_of_limit, terms_of_shape, terms_of_res, terms_of_resources}
+use Rattle.chan_base.specs.declared.spans.Span.{Span}
 use Rattle.chan_syntax.specs.declared.linear.Bound.{Bound}
 use Rattle.chan_syntax.specs.declared.resources.Ref.{Ref}
 use Rattle.chan_syntax.specs.declared.resources.Shape.{Shape, Unit, Int, End, Pair', Sum', Row_of-Res, end_of-Res, more_of-Res}
@@ -14,7 +14,7 @@ use Rattle.chan_syntax.specs.declared.resources.Res.{Res}
 use Rattle.chan_syntax.specs.declared.resources.Equation.{Equation}
 use Rattle.chan_syntax.specs.declared.resources.Equation.TheVariants as equation
 use Rattle.chan_syntax.specs.declared.resources.Proto.{Proto}
-use Rattle.chan_syntax.specs.Reading.{term_of, limit_of, ref_of, shape_of, res_in, res_of, equation_of, proto_of}
+use Rattle.chan_syntax.specs.Reading.{term_of, limit_of, ref_of, shape_of, res_in, resources_in, res_of, equation_of, proto_of}
 use Rattle.form_faults.specs.declared.faults.IllKind.TheVariants as kind
 use Rattle.form_faults.specs.declared.sorts.Sort.TheVariants as sort
 use Rattle.form_faults.specs.declared.sorts.Known.{Known}
@@ -22,7 +22,7 @@ use Rattle.form_faults.specs.declared.signatures.Signature.{Signature}
 use Rattle.form_faults.specs.Faults.{of_name}
 use Rattle.form_faults.specs.Scopes.{bind_all, twice_all, names_past}
 use Rattle.form_faults.specs.Terms.{fixed_term_faults, fixed_terms_faults, bound_scope, bound_faults, count_of, counted, use_faults, fixed_ref_faults}
-use Rattle.form_faults.specs.Resources.{shape_faults, res_in_faults, res_faults, unless_shallow, are_shallow, next_faults, message_faults, branch_faults, equation_faults, proto_binders, proto_faults}
+use Rattle.form_faults.specs.Resources.{shape_faults, res_in_faults, row_faults, res_faults, unless_shallow, are_shallow, next_faults, message_faults, branch_faults, equation_faults, proto_binders, proto_faults}
 use Rattle.core_programs.specs.declared.nodes.Parts.{Parts}
 use Rattle.core_programs.specs.Passes.{proto_signatures, protos_faults, funcs_faults, func_signatures}
 use Rattle.core_programs.specs.Form.{HasForm}
@@ -103,10 +103,7 @@ module _ (protos : List Signature) (params : List Ident) where
         let one = res_in_faults protos scope first in
         let two = res_in_faults protos scope second in
         All-append (NamesUnder params) (terms_of_res outer (res_in first)) (terms_of_res outer (res_in second)) (row_named outer scope first within (none_left one two none)) (row_named outer scope second within (none_right one two none))
-    shape_named outer scope (Sum' _ left _ right) within none =
-        let one = res_in_faults protos scope left in
-        let two = res_in_faults protos scope right in
-        All-append (NamesUnder params) (terms_of_res outer (res_in left)) (terms_of_res outer (res_in right)) (row_named outer scope left within (none_left one two none)) (row_named outer scope right within (none_right one two none))
+    shape_named outer scope (Sum' _ arms) within none = rows_named outer scope arms within none
 
     row_named : {m : _} (outer : List Ident) (scope : List Known) (row : Row_of-Res m) → Within (IsIn (outer ++ params)) scope → res_in_faults protos scope row ≡ []
         → All (NamesUnder params) (terms_of_res outer (res_in row))
@@ -117,6 +114,20 @@ module _ (protos : List Signature) (params : List Ident) where
         All-append (NamesUnder params) (scoped (bound.names ++ outer) (flat_map terms_of_limit (map limit_of bound.limits))) (terms_of_shape (bound.names ++ outer) (shape_of shape))
         (bound_terms outer scope bound within (none_left binds inner none))
         (shape_named (bound.names ++ outer) (bound_scope scope bound) shape (bound_within bound.names outer params scope bound refl within) (none_right binds inner none))
+
+    rows_named : {m : _} (outer : List Ident) (scope : List Known) (row : Row_of-Res m) → Within (IsIn (outer ++ params)) scope → row_faults protos scope row ≡ []
+        → All (NamesUnder params) (terms_of_resources outer (resources_in row))
+    rows_named outer scope end_of-Res within none = All-nil (NamesUnder params)
+    rows_named outer scope (more_of-Res bound shape rest) within none =
+        let binds = bound_faults scope bound in
+        let inner = shape_faults protos (bound_scope scope bound) shape in
+        let others = row_faults protos scope rest in
+        let clean = none_left (binds ++ inner) others none in
+        All-append (NamesUnder params) (scoped (bound.names ++ outer) (flat_map terms_of_limit (map limit_of bound.limits)) ++ terms_of_shape (bound.names ++ outer) (shape_of shape)) (terms_of_resources outer (resources_in rest))
+        (All-append (NamesUnder params) (scoped (bound.names ++ outer) (flat_map terms_of_limit (map limit_of bound.limits))) (terms_of_shape (bound.names ++ outer) (shape_of shape))
+        (bound_terms outer scope bound within (none_left binds inner clean))
+        (shape_named (bound.names ++ outer) (bound_scope scope bound) shape (bound_within bound.names outer params scope bound refl within) (none_right binds inner clean)))
+        (rows_named outer scope rest within (none_right (binds ++ inner) others none))
 
   -- ---- terms of equations
 

@@ -2,15 +2,15 @@
 use Rattle.std.proofs.Common.{◌≡◌, Bool, true, false, List, [], ◌∷◌, ◌++◌, All, length, Option, Some, None, Ok, refl, ◌∙◌, subst}
 use Rattle.std.proofs.lemmas.List.Elements.{All-nil, All-cons, All-append, All-head, All-tail}
 use Rattle.core_language.specs.Names.{Ident}
-use Rattle.core_language.specs.Resources.{Ref, Shape, Res, Equation, Proto, Send, Recv, Close, Wait, Branch}
+use Rattle.core_language.specs.Resources.{Ref, Shape, Res, Resources, Equation, Proto, Send, Recv, Close, Wait, Branch}
 use Rattle.core_language.specs.Resources as resource
 use Rattle.core_language.specs.Operands.{Letter}
-use Rattle.linear_forms.specs.Substitution.{Each, OnNames, OnTerms, IsRefLike, IsShapeLike, IsResLike, IsRenamed, IsNormalPut}
+use Rattle.linear_forms.specs.Substitution.{Each, OnNames, OnTerms, IsRefLike, IsShapeLike, IsResLike, AreResourcesLike, IsRenamed, IsNormalPut}
 use Rattle.linear_forms.proofs.Shorts.{all_left, all_right}
 use Rattle.protocols.specs.Duals.{dual_equation, dual_ref, Message, message_of}
 use Rattle.protocols.specs.Heads.{proto_named, equation_of_end}
 use Rattle.protocols.specs.Unfolding.{Setting, Found, Unfolds}
-use Rattle.unfold_laws.specs.References.{refs_of_shape, refs_of_res, refs_of_equation, refs_of_message, IsKnown, AreKnown, KnowTheirs}
+use Rattle.unfold_laws.specs.References.{refs_of_shape, refs_of_res, refs_of_resources, refs_of_equation, refs_of_message, IsKnown, AreKnown, KnowTheirs}
 
 each_long : {X : Type 0} (R : X → X → Type 0) (xs ys : List X) → Each R xs ys → length ys ≡ length xs
 each_long R [] [] e = refl
@@ -65,31 +65,37 @@ module _ (protos : List Proto) where
       shape_kept before after (resource.End r) (resource.End q) like h = All-cons Is q [] (ref_kept before after r q like (All-head Is r [] h)) (All-nil Is)
       shape_kept before after (resource.Pair a b) (resource.Pair c d) like h =
           All-append Is (refs_of_res c) (refs_of_res d) (res_kept before after a c like.0 (all_left Is (refs_of_res a) (refs_of_res b) h)) (res_kept before after b d like.1 (all_right Is (refs_of_res a) (refs_of_res b) h))
-      shape_kept before after (resource.Sum a b) (resource.Sum c d) like h =
-          All-append Is (refs_of_res c) (refs_of_res d) (res_kept before after a c like.0 (all_left Is (refs_of_res a) (refs_of_res b) h)) (res_kept before after b d like.1 (all_right Is (refs_of_res a) (refs_of_res b) h))
+      shape_kept before after (resource.Sum rs) (resource.Sum qs) like h = resources_kept before after rs qs like h
       shape_kept before after resource.Unit (resource.Int u) like h = absurd like
       shape_kept before after resource.Unit (resource.End q) like h = absurd like
       shape_kept before after resource.Unit (resource.Pair c d) like h = absurd like
-      shape_kept before after resource.Unit (resource.Sum c d) like h = absurd like
+      shape_kept before after resource.Unit (resource.Sum qs) like h = absurd like
       shape_kept before after (resource.Int t) resource.Unit like h = absurd like
       shape_kept before after (resource.Int t) (resource.End q) like h = absurd like
       shape_kept before after (resource.Int t) (resource.Pair c d) like h = absurd like
-      shape_kept before after (resource.Int t) (resource.Sum c d) like h = absurd like
+      shape_kept before after (resource.Int t) (resource.Sum qs) like h = absurd like
       shape_kept before after (resource.End r) resource.Unit like h = absurd like
       shape_kept before after (resource.End r) (resource.Int u) like h = absurd like
       shape_kept before after (resource.End r) (resource.Pair c d) like h = absurd like
-      shape_kept before after (resource.End r) (resource.Sum c d) like h = absurd like
+      shape_kept before after (resource.End r) (resource.Sum qs) like h = absurd like
       shape_kept before after (resource.Pair a b) resource.Unit like h = absurd like
       shape_kept before after (resource.Pair a b) (resource.Int u) like h = absurd like
       shape_kept before after (resource.Pair a b) (resource.End q) like h = absurd like
-      shape_kept before after (resource.Pair a b) (resource.Sum c d) like h = absurd like
-      shape_kept before after (resource.Sum a b) resource.Unit like h = absurd like
-      shape_kept before after (resource.Sum a b) (resource.Int u) like h = absurd like
-      shape_kept before after (resource.Sum a b) (resource.End q) like h = absurd like
-      shape_kept before after (resource.Sum a b) (resource.Pair c d) like h = absurd like
+      shape_kept before after (resource.Pair a b) (resource.Sum qs) like h = absurd like
+      shape_kept before after (resource.Sum rs) resource.Unit like h = absurd like
+      shape_kept before after (resource.Sum rs) (resource.Int u) like h = absurd like
+      shape_kept before after (resource.Sum rs) (resource.End q) like h = absurd like
+      shape_kept before after (resource.Sum rs) (resource.Pair c d) like h = absurd like
 
       res_kept : (before after : List Ident) (x y : Res) → IsResLike N T before after x y → All Is (refs_of_res x) → All Is (refs_of_res y)
       res_kept before after (resource.Binds b s) (resource.Binds c t) like h = shape_kept (b.names ++ before) (c.names ++ after) s t like.2 h
+
+      resources_kept : (before after : List Ident) (rs qs : Resources) → AreResourcesLike N T before after rs qs → All Is (refs_of_resources rs) → All Is (refs_of_resources qs)
+      resources_kept before after resource.NoMore resource.NoMore like h = h
+      resources_kept before after resource.NoMore (resource.More q qs) like h = absurd like
+      resources_kept before after (resource.More r rs) resource.NoMore like h = absurd like
+      resources_kept before after (resource.More r rs) (resource.More q qs) like h =
+          All-append Is (refs_of_res q) (refs_of_resources qs) (res_kept before after r q like.0 (all_left Is (refs_of_res r) (refs_of_resources rs) h)) (resources_kept before after rs qs like.1 (all_right Is (refs_of_res r) (refs_of_resources rs) h))
 
 pub found_known : (s : Setting) (ref : Ref) (letters : List Letter) (found : Found) → KnowTheirs s.protos → Unfolds s ref letters (Ok found) → AreKnown s.protos (refs_of_res found.res)
 found_known s ref letters found theirs (form, (last, follows, (message, put, (proto, equation, (named, is), sends, put_is), direction, like))) =

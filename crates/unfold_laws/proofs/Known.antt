@@ -1,5 +1,5 @@
 -- Each reference of a program of form is known.
-use Rattle.std.proofs.Common.{◌≡◌, ℕ, zero, suc, ◌+◌, List, [], ◌∷◌, ◌++◌, All, map, flat_map, length, Option, Some, None, option_to_list, option_map, slice_get, ◌&&◌, subst}
+use Rattle.std.proofs.Common.{◌≡◌, ℕ, zero, suc, ◌+◌, List, [], ◌∷◌, ◌++◌, All, map, flat_map, length, Option, Some, None, option_to_list, option_map, slice_get, ◌&&◌, refl, subst}
 use Rattle.std.proofs.lemmas.List.Elements.{All-nil, All-cons, All-append, All-head}
 use Rattle.core_language.specs.Resources as resource
 use Rattle.core_language.specs.Programs as core
@@ -10,24 +10,26 @@ use Rattle.chan_syntax.specs.declared.resources.Param.{Param}
 use Rattle.chan_syntax.specs.declared.resources.Equation.{Equation}
 use Rattle.chan_syntax.specs.declared.resources.Equation.TheVariants as equation
 use Rattle.chan_syntax.specs.declared.resources.Proto.{Proto}
-use Rattle.chan_syntax.specs.Reading.{ref_of, shape_of, res_in, res_of, equation_of, proto_of}
+use Rattle.chan_syntax.specs.Reading.{ref_of, shape_of, res_in, resources_in, res_of, equation_of, proto_of}
 use Rattle.form_faults.specs.declared.sorts.Sort.TheVariants as sort
 use Rattle.form_faults.specs.declared.sorts.Known.{Known}
 use Rattle.form_faults.specs.declared.sorts.Naming.TheVariants as naming
 use Rattle.form_faults.specs.declared.signatures.Signature.{Signature}
-use Rattle.form_faults.specs.Scopes.{bind, bind_all, twice, twice_all}
+use Rattle.form_faults.specs.Scopes.{bind, bind_all, twice}
 use Rattle.form_faults.specs.Terms.{fixed_term_faults, bound_scope, bound_faults, use_faults, fixed_ref_faults, terms_faults, ref_faults}
-use Rattle.form_faults.specs.Resources.{shape_faults, res_in_faults, res_faults, next_faults, message_faults, branch_faults, equation_faults, proto_binders, proto_faults, unless_shallow, params_are_shallow, is_shallow, param_faults, params_faults, params_past, header_scope, header_faults}
+use Rattle.form_faults.specs.Resources.{shape_faults, res_in_faults, row_faults, res_faults, next_faults, message_faults, branch_faults, equation_faults, proto_binders, proto_faults, unless_shallow, params_are_shallow, is_shallow, param_faults, params_faults, params_past, header_scope, header_faults}
+use Rattle.core_programs.specs.declared.nodes.Arm.{Arm}
 use Rattle.core_programs.specs.declared.nodes.Node.{Node}
 use Rattle.core_programs.specs.declared.nodes.Node.TheVariants as node
 use Rattle.core_programs.specs.declared.nodes.Func.{Func}
 use Rattle.core_programs.specs.declared.nodes.Parts.{Parts}
 use Rattle.core_programs.specs.Formed.{nexts}
-use Rattle.core_programs.specs.Trees.{Tree, Grown, at_number, grown_at, tree_within, tree}
-use Rattle.core_programs.specs.Bodies.{opened, opened_at, rest_within, rest, param_of, function_of, program_of}
-use Rattle.core_programs.specs.Passes.{call_faults, operand_faults, first_binders, second_binders, body_faults, func_faults, funcs_faults, protos_faults, proto_signatures, func_signatures}
+use Rattle.core_programs.specs.Trees.{grown_at, tree_within, tree}
+use Rattle.core_programs.specs.Bodies.{arms_opened, opened, opened_at, rest_within, rest, param_of, function_of, program_of}
+use Rattle.core_programs.specs.Passes.{call_faults, operand_faults, binders_at, body_faults, func_faults, funcs_faults, protos_faults, proto_signatures, func_signatures}
 use Rattle.core_programs.specs.Form.{HasForm}
-use Rattle.unfold_laws.specs.References.{refs_of_shape, refs_of_res, refs_of_equation, refs_of_body, refs_of_function, refs_of_program, IsKnown, AreKnown, KnowTheirs}
+use Rattle.core_programs.proofs.Clean.{operands_clean, body_clean}
+use Rattle.unfold_laws.specs.References.{refs_of_shape, refs_of_res, refs_of_resources, refs_of_equation, refs_of_body, refs_of_arms, refs_of_function, refs_of_program, IsKnown, AreKnown, KnowTheirs}
 use Rattle.unfold_laws.specs.Forks.{refs_of_node}
 use Rattle.unfold_laws.proofs.Clean.{none_left, none_right}
 use Rattle.unfold_laws.proofs.Formed.{use_known, fixed_ref_known, equation_clean, named_clean, protos_clean}
@@ -53,15 +55,22 @@ module _ (table : List Proto) where
         let one = res_in_faults protos scope first in
         let two = res_in_faults protos scope second in
         All-append Is (refs_of_res (res_in first)) (refs_of_res (res_in second)) (row_known scope first (none_left one two none)) (row_known scope second (none_right one two none))
-    shape_known scope (Sum' _ left _ right) none =
-        let one = res_in_faults protos scope left in
-        let two = res_in_faults protos scope right in
-        All-append Is (refs_of_res (res_in left)) (refs_of_res (res_in right)) (row_known scope left (none_left one two none)) (row_known scope right (none_right one two none))
+    shape_known scope (Sum' _ arms) none = rows_known scope arms none
 
     row_known : {m : _} (scope : List Known) (row : Row_of-Res m) → res_in_faults protos scope row ≡ [] → All Is (refs_of_res (res_in row))
     row_known scope end_of-Res none = All-nil Is
     row_known scope (more_of-Res bound shape rest) none =
         shape_known (bound_scope scope bound) shape (none_right (bound_faults scope bound) (shape_faults protos (bound_scope scope bound) shape) none)
+
+    rows_known : {m : _} (scope : List Known) (row : Row_of-Res m) → row_faults protos scope row ≡ [] → All Is (refs_of_resources (resources_in row))
+    rows_known scope end_of-Res none = All-nil Is
+    rows_known scope (more_of-Res bound shape rest) none =
+        let binds = bound_faults scope bound in
+        let inner = shape_faults protos (bound_scope scope bound) shape in
+        let others = row_faults protos scope rest in
+        All-append Is (refs_of_shape (shape_of shape)) (refs_of_resources (resources_in rest))
+        (shape_known (bound_scope scope bound) shape (none_right binds inner (none_left (binds ++ inner) others none)))
+        (rows_known scope rest (none_right (binds ++ inner) others none))
 
   res_known : (scope : List Known) (res : Res) → res_faults protos scope res ≡ [] → All Is (refs_of_res (res_of res))
   unfolding res_faults
@@ -122,68 +131,44 @@ module _ (table : List Proto) where
   node_known funcs scope (node.Print term next span) none = All-nil Is
   node_known funcs scope (node.If left right this other span) none = All-nil Is
   node_known funcs scope (node.Split first second name name_at next span) none = All-nil Is
-  node_known funcs scope (node.Match name name_at left this right other span) none = All-nil Is
+  node_known funcs scope (node.Match name name_at arms span) none = All-nil Is
   node_known funcs scope (node.Absurd proof span) none = All-nil Is
   node_known funcs scope (node.Ret value proof span) none = All-nil Is
 
-  -- the references of the body at a number, where a node names one
-  abbrev refs_at : Option ℕ → (ℕ → core.Body) → List resource.Ref
-  refs_at None at = []
-  refs_at (Some n) at = refs_of_body (at n)
+  arms_known : (arms : List Arm) (at : ℕ → core.Body) → ((k m : ℕ) → slice_get (map (λ arm. arm.next) arms) k ≡ Some m → All Is (refs_of_body (at m))) → All Is (refs_of_arms (arms_opened arms at))
+  arms_known [] at after = All-nil Is
+  arms_known (arm ∷ arms) at after =
+      All-append Is (refs_of_body (at arm.next)) (refs_of_arms (arms_opened arms at)) (after 0 arm.next refl) (arms_known arms at (λ k m goes. after (suc k) m goes))
 
-  opened_known : (x : Node) (at : ℕ → core.Body) → All Is (refs_of_node x) → All Is (refs_at (slice_get (nexts x) 0) at) → All Is (refs_at (slice_get (nexts x) 1) at) → All Is (refs_of_body (opened x at))
-  opened_known (node.Let name name_at term next span) at here first second = first
-  opened_known (node.Mul name name_at left right next span) at here first second = first
-  opened_known (node.Div name name_at term divisor divisor_at next span) at here first second = first
-  opened_known (node.Rem name name_at term divisor divisor_at next span) at here first second = first
-  opened_known (node.Call pat func func_at values proof next span) at here first second = first
-  opened_known (node.Tail func func_at values proof span) at here first second = All-nil Is
-  opened_known (node.Fork name name_at proto func func_at values proof next span) at here first second = All-cons Is (ref_of proto) (refs_of_body (at next)) (All-head Is (ref_of proto) [] here) first
-  opened_known (node.Send1 channel channel_at path path_at value proof next span) at here first second = first
-  opened_known (node.Recv1 pat channel channel_at path path_at proof next span) at here first second = first
-  opened_known (node.Print term next span) at here first second = first
-  opened_known (node.If left right this other span) at here first second = All-append Is (refs_of_body (at this)) (refs_of_body (at other)) first second
-  opened_known (node.Split one two name name_at next span) at here first second = first
-  opened_known (node.Match name name_at left this right other span) at here first second = All-append Is (refs_of_body (at this)) (refs_of_body (at other)) first second
-  opened_known (node.Absurd proof span) at here first second = All-nil Is
-  opened_known (node.Ret value proof span) at here first second = All-nil Is
-
-  -- what a body without faults is made of has none
-  pub parts_clean : (funcs : List Signature) (scope : List Known) (x : Node) (first second : Tree) → body_faults protos funcs scope (Grown x first second) ≡ []
-      → (operand_faults protos funcs scope x ≡ []) × (body_faults protos funcs (bind_all scope (first_binders x)) first ≡ []) × (body_faults protos funcs (bind_all scope (second_binders x)) second ≡ [])
-  unfolding body_faults
-  parts_clean funcs scope x first second none =
-      let operands = operand_faults protos funcs scope x in
-      let one = twice_all scope (first_binders x) in
-      let two = twice_all scope (second_binders x) in
-      let here = body_faults protos funcs (bind_all scope (first_binders x)) first in
-      let there = body_faults protos funcs (bind_all scope (second_binders x)) second in
-      let bodies = none_right operands ((one ++ here) ++ (two ++ there)) none in (
-        none_left operands ((one ++ here) ++ (two ++ there)) none,
-        none_right one here (none_left (one ++ here) (two ++ there) bodies),
-        none_right two there (none_right (one ++ here) (two ++ there) bodies),
-      )
+  opened_known : (x : Node) (at : ℕ → core.Body) → All Is (refs_of_node x) → ((k m : ℕ) → slice_get (nexts x) k ≡ Some m → All Is (refs_of_body (at m))) → All Is (refs_of_body (opened x at))
+  opened_known (node.Let name name_at term next span) at here after = after 0 next refl
+  opened_known (node.Mul name name_at left right next span) at here after = after 0 next refl
+  opened_known (node.Div name name_at term divisor divisor_at next span) at here after = after 0 next refl
+  opened_known (node.Rem name name_at term divisor divisor_at next span) at here after = after 0 next refl
+  opened_known (node.Call pat func func_at values proof next span) at here after = after 0 next refl
+  opened_known (node.Tail func func_at values proof span) at here after = All-nil Is
+  opened_known (node.Fork name name_at proto func func_at values proof next span) at here after = All-cons Is (ref_of proto) (refs_of_body (at next)) (All-head Is (ref_of proto) [] here) (after 0 next refl)
+  opened_known (node.Send1 channel channel_at path path_at value proof next span) at here after = after 0 next refl
+  opened_known (node.Recv1 pat channel channel_at path path_at proof next span) at here after = after 0 next refl
+  opened_known (node.Print term next span) at here after = after 0 next refl
+  opened_known (node.If left right this other span) at here after = All-append Is (refs_of_body (at this)) (refs_of_body (at other)) (after 0 this refl) (after 1 other refl)
+  opened_known (node.Split one two name name_at next span) at here after = after 0 next refl
+  opened_known (node.Match name name_at arms span) at here after = arms_known arms at after
+  opened_known (node.Absurd proof span) at here after = All-nil Is
+  opened_known (node.Ret value proof span) at here after = All-nil Is
 
   body_known : (funcs : List Signature) (nodes : List Node) (depth : ℕ) (scope : List Known) (n : ℕ) → body_faults protos funcs scope (tree_within depth nodes n) ≡ [] → All Is (refs_of_body (rest_within depth nodes n))
   unfolding tree_within rest_within
   body_known funcs nodes zero scope n none = All-nil Is
   body_known funcs nodes (suc depth) scope n none = by (slice_get nodes n) (λ inner m e. body_known funcs nodes depth inner m e) none
     where
-      number : (o : Option ℕ) (inner : List Known)
-          → ((m : ℕ) → body_faults protos funcs inner (tree_within depth nodes m) ≡ [] → All Is (refs_of_body (rest_within depth nodes m)))
-          → body_faults protos funcs inner (at_number o (tree_within depth nodes)) ≡ [] → All Is (refs_at o (rest_within depth nodes))
-      number None inner deeper e = All-nil Is
-      number (Some m) inner deeper e = deeper m e
-
       by : (o : Option Node)
           → ((inner : List Known) (m : ℕ) → body_faults protos funcs inner (tree_within depth nodes m) ≡ [] → All Is (refs_of_body (rest_within depth nodes m)))
           → body_faults protos funcs scope (grown_at o (tree_within depth nodes)) ≡ [] → All Is (refs_of_body (opened_at o (rest_within depth nodes)))
       by None deeper e = All-nil Is
       by (Some x) deeper e =
-          let clean = parts_clean funcs scope x (at_number (slice_get (nexts x) 0) (tree_within depth nodes)) (at_number (slice_get (nexts x) 1) (tree_within depth nodes)) e in
-          opened_known x (rest_within depth nodes) (node_known funcs scope x clean.0)
-          (number (slice_get (nexts x) 0) (bind_all scope (first_binders x)) (deeper (bind_all scope (first_binders x))) clean.1)
-          (number (slice_get (nexts x) 1) (bind_all scope (second_binders x)) (deeper (bind_all scope (second_binders x))) clean.2)
+          opened_known x (rest_within depth nodes) (node_known funcs scope x (operands_clean protos funcs (tree_within depth nodes) x scope e))
+          (λ k m goes. deeper (bind_all scope (binders_at x k)) m (body_clean protos funcs (tree_within depth nodes) x scope k m e goes))
 
   -- ---- functions
 

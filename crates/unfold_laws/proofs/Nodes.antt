@@ -8,44 +8,23 @@ use Rattle.form_faults.specs.declared.signatures.Signature.{Signature}
 use Rattle.form_faults.specs.Resources.{header_scope, header_faults}
 use Rattle.form_faults.specs.Scopes.{bind_all}
 use Rattle.core_programs.specs.declared.nodes.Node.{Node}
-use Rattle.core_programs.specs.declared.nodes.Node.TheVariants as node
 use Rattle.core_programs.specs.declared.nodes.Func.{Func}
 use Rattle.core_programs.specs.declared.nodes.Parts.{Parts}
 use Rattle.core_programs.specs.Formed.{nexts, Leads, IsNumbered}
-use Rattle.core_programs.specs.Trees.{Tree, at_number, tree, grown}
-use Rattle.core_programs.specs.Passes.{first_binders, second_binders, operand_faults, body_faults, func_faults, funcs_faults, proto_signatures, func_signatures}
+use Rattle.core_programs.specs.Trees.{tree, grown}
+use Rattle.core_programs.specs.Passes.{binders_at, operand_faults, body_faults, func_faults, funcs_faults, proto_signatures, func_signatures}
 use Rattle.core_programs.specs.Form.{IsFormed}
 use Rattle.core_programs.proofs.Growing.{tree_grown}
+use Rattle.core_programs.proofs.Clean.{operands_clean, body_clean}
 use Rattle.unfold_laws.specs.References.{AreKnown}
 use Rattle.unfold_laws.specs.Forks.{refs_of_node}
 use Rattle.unfold_laws.proofs.Clean.{none_left, none_right}
-use Rattle.unfold_laws.proofs.Known.{parts_clean, node_known, funcs_clean}
-
--- a node names two numbers at most
-two_at_most : (x : Node) (k m : ℕ) → slice_get (nexts x) (suc (suc k)) ≡ Some m → ⊥
-two_at_most (node.Let name name_at term next span) k m is = cc
-two_at_most (node.Mul name name_at left right next span) k m is = cc
-two_at_most (node.Div name name_at term divisor divisor_at next span) k m is = cc
-two_at_most (node.Rem name name_at term divisor divisor_at next span) k m is = cc
-two_at_most (node.Call pat func func_at values proof next span) k m is = cc
-two_at_most (node.Tail func func_at values proof span) k m is = cc
-two_at_most (node.Fork name name_at proto func func_at values proof next span) k m is = cc
-two_at_most (node.Send1 channel channel_at path path_at value proof next span) k m is = cc
-two_at_most (node.Recv1 pat channel channel_at path path_at proof next span) k m is = cc
-two_at_most (node.Print term next span) k m is = cc
-two_at_most (node.If left right this other span) k m is = cc
-two_at_most (node.Split first second name name_at next span) k m is = cc
-two_at_most (node.Match name name_at left this right other span) k m is = cc
-two_at_most (node.Absurd proof span) k m is = cc
-two_at_most (node.Ret value proof span) k m is = cc
+use Rattle.unfold_laws.proofs.Known.{node_known, funcs_clean}
 
 module _ (table : List Proto) (funcs : List Signature) (parts : Parts) (numbered : IsNumbered parts) where
   -- no fault in the body at a number, in some scope
   abbrev IsClean : ℕ → Type 0
   IsClean n = (scope : List Known) × (body_faults (proto_signatures table) funcs scope (tree parts.nodes n) ≡ [])
-
-  abbrev one_at : ℕ → Node → Tree
-  one_at k x = at_number (slice_get (nexts x) k) (tree parts.nodes)
 
   opened : (n : ℕ) (x : Node) (scope : List Known) → slice_get parts.nodes n ≡ Some x → body_faults (proto_signatures table) funcs scope (tree parts.nodes n) ≡ []
       → body_faults (proto_signatures table) funcs scope (grown x (tree parts.nodes)) ≡ []
@@ -53,13 +32,8 @@ module _ (table : List Proto) (funcs : List Signature) (parts : Parts) (numbered
 
   -- nor in the bodies that its node names
   turned : (n : ℕ) (x : Node) (turn next : ℕ) → slice_get parts.nodes n ≡ Some x → slice_get (nexts x) turn ≡ Some next → IsClean n → IsClean next
-  turned n x zero next is picked (scope, none) =
-      let clean = (parts_clean table funcs scope x (one_at 0 x) (one_at 1 x) (opened n x scope is none)).1 in
-      (bind_all scope (first_binders x), subst (λ o. body_faults (proto_signatures table) funcs (bind_all scope (first_binders x)) (at_number o (tree parts.nodes)) ≡ []) picked clean)
-  turned n x (suc zero) next is picked (scope, none) =
-      let clean = (parts_clean table funcs scope x (one_at 0 x) (one_at 1 x) (opened n x scope is none)).2 in
-      (bind_all scope (second_binders x), subst (λ o. body_faults (proto_signatures table) funcs (bind_all scope (second_binders x)) (at_number o (tree parts.nodes)) ≡ []) picked clean)
-  turned n x (suc (suc k)) next is picked clean = absurd (two_at_most x k next picked)
+  turned n x turn next is picked (scope, none) =
+      (bind_all scope (binders_at x turn), body_clean (proto_signatures table) funcs (tree parts.nodes) x scope turn next (opened n x scope is none) picked)
 
   led : (turns : List ℕ) (n m : ℕ) → Leads parts.nodes n turns m → IsClean n → IsClean m
   led [] n m leads clean = subst IsClean leads clean
@@ -78,7 +52,7 @@ module _ (table : List Proto) (funcs : List Signature) (parts : Parts) (numbered
 
   -- nor in the operands of its node
   pub clean_at : (n : ℕ) (x : Node) → slice_get parts.nodes n ≡ Some x → IsClean n → (scope : List Known) × (operand_faults (proto_signatures table) funcs scope x ≡ [])
-  clean_at n x is (scope, none) = (scope, (parts_clean table funcs scope x (one_at 0 x) (one_at 1 x) (opened n x scope is none)).0)
+  clean_at n x is (scope, none) = (scope, operands_clean (proto_signatures table) funcs (tree parts.nodes) x scope (opened n x scope is none))
 
 pub nodes_clean : (parts : Parts) (n : ℕ) (x : Node) → IsFormed parts → slice_get parts.nodes n ≡ Some x
     → (scope : List Known) × (operand_faults (proto_signatures parts.protos) (func_signatures parts.funcs) scope x ≡ [])

@@ -5,7 +5,7 @@ use Rattle.linear_forms.specs.Substitution.{OnNames, OnTerms, IsResLike, IsSameR
 use Rattle.protocols.specs.Unfolding.{Fault, Found}
 
 abbrev pub SameNames : OnNames
-SameNames before res y z = y ≡ z
+SameNames before scope res y z = y ≡ z
 
 abbrev pub AnyTerms : OnTerms
 AnyTerms before after t u = Unit {0}

@@ -1,9 +1,9 @@
 -- The references of a program, and the protocols that they name.
 use Rattle.std.specs.Prelude.{◌≡◌, List, [], ◌∷◌, ◌++◌, All, flat_map, length, Option, Some, None, option_to_list}
 use Rattle.core_language.specs.Names.{Ident}
-use Rattle.core_language.specs.Resources.{Ref, Shape, Res, Equation, Proto, Send, Recv, Close, Wait, Branch}
+use Rattle.core_language.specs.Resources.{Ref, Shape, Res, Resources, Equation, Proto, Send, Recv, Close, Wait, Branch}
 use Rattle.core_language.specs.Resources as resource
-use Rattle.core_language.specs.Programs.{Body, Function, Program}
+use Rattle.core_language.specs.Programs.{Body, Arms, Function, Program}
 use Rattle.core_language.specs.Programs as core
 use Rattle.protocols.specs.Duals.{Message}
 use Rattle.protocols.specs.Heads.{proto_named}
@@ -16,10 +16,14 @@ abbrev mutual
   refs_of_shape (resource.Int term) = []
   refs_of_shape (resource.End ref) = ref ∷ []
   refs_of_shape (resource.Pair a b) = refs_of_res a ++ refs_of_res b
-  refs_of_shape (resource.Sum a b) = refs_of_res a ++ refs_of_res b
+  refs_of_shape (resource.Sum rs) = refs_of_resources rs
 
   pub refs_of_res : Res → List Ref
   refs_of_res (resource.Binds bound shape) = refs_of_shape shape
+
+  pub refs_of_resources : Resources → List Ref
+  refs_of_resources resource.NoMore = []
+  refs_of_resources (resource.More r rs) = refs_of_res r ++ refs_of_resources rs
 
 -- those of what is sent, and where the equation goes on
 abbrev pub refs_of_equation : Equation → List Ref
@@ -33,23 +37,28 @@ abbrev pub refs_of_message : Option Message → List Ref
 refs_of_message None = []
 refs_of_message (Some message) = refs_of_res message.res
 
--- those of its forks
-abbrev pub refs_of_body : Body → List Ref
-refs_of_body (core.Let span name term next) = refs_of_body next
-refs_of_body (core.Mul span name left right next) = refs_of_body next
-refs_of_body (core.Div span name term divisor next) = refs_of_body next
-refs_of_body (core.Rem span name term divisor next) = refs_of_body next
-refs_of_body (core.Call span pat func values proof next) = refs_of_body next
-refs_of_body (core.Tail span func values proof) = []
-refs_of_body (core.Fork span name ref func values proof next) = ref ∷ refs_of_body next
-refs_of_body (core.Send1 span channel path value proof next) = refs_of_body next
-refs_of_body (core.Recv1 span pat channel path proof next) = refs_of_body next
-refs_of_body (core.Print span term next) = refs_of_body next
-refs_of_body (core.If span left right this other) = refs_of_body this ++ refs_of_body other
-refs_of_body (core.Split span first second name next) = refs_of_body next
-refs_of_body (core.Match span name left this right other) = refs_of_body this ++ refs_of_body other
-refs_of_body (core.Absurd span proof) = []
-refs_of_body (core.Ret span value proof) = []
+abbrev mutual
+  -- those of its forks
+  pub refs_of_body : Body → List Ref
+  refs_of_body (core.Let span name term next) = refs_of_body next
+  refs_of_body (core.Mul span name left right next) = refs_of_body next
+  refs_of_body (core.Div span name term divisor next) = refs_of_body next
+  refs_of_body (core.Rem span name term divisor next) = refs_of_body next
+  refs_of_body (core.Call span pat func values proof next) = refs_of_body next
+  refs_of_body (core.Tail span func values proof) = []
+  refs_of_body (core.Fork span name ref func values proof next) = ref ∷ refs_of_body next
+  refs_of_body (core.Send1 span channel path value proof next) = refs_of_body next
+  refs_of_body (core.Recv1 span pat channel path proof next) = refs_of_body next
+  refs_of_body (core.Print span term next) = refs_of_body next
+  refs_of_body (core.If span left right this other) = refs_of_body this ++ refs_of_body other
+  refs_of_body (core.Split span first second name next) = refs_of_body next
+  refs_of_body (core.Match span name arms) = refs_of_arms arms
+  refs_of_body (core.Absurd span proof) = []
+  refs_of_body (core.Ret span value proof) = []
+
+  pub refs_of_arms : Arms → List Ref
+  refs_of_arms core.NoArm = []
+  refs_of_arms (core.Arm pat next more) = refs_of_body next ++ refs_of_arms more
 
 -- those of its parameters, its result and its body
 abbrev pub refs_of_function : Function → List Ref

@@ -12,6 +12,8 @@ syntax keyword chanlProof with by via
 syntax keyword chanlShape int unit end sum
 syntax keyword chanlOperation mul div rem
 syntax match chanlMark "->\|<=\|[~#|+*<=:-]"
+" The number of an arm; behind a number and a space a # names a hypothesis.
+syntax match chanlTag "\%([0-9] \)\@<!#\%(1[0-5]\|[0-9]\)\>"
 
 highlight default link chanlComment Comment
 highlight default link chanlNumber Number
@@ -22,5 +24,6 @@ highlight default link chanlProof PreProc
 highlight default link chanlShape Type
 highlight default link chanlOperation Function
 highlight default link chanlMark Operator
+highlight default link chanlTag Conditional
 
 let b:current_syntax = "chanl"

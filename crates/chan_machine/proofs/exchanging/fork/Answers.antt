@@ -1,4 +1,4 @@
-use Rattle.std.proofs.Common.{◌≡◌, suc, Some, None, rules, sym, ap, ◌∙◌}
+use Rattle.std.proofs.Common.{◌≡◌, suc, Some, None, rules, sym, subst, ap, ◌∙◌}
 use Rattle.std.specs.Option.{option_map}
 use Rattle.std.specs.Ordering.{nat_cmp}
 use Rattle.std.specs.Cmp.Lexicographic.{slice_cmp}
@@ -8,13 +8,14 @@ use Rattle.core_language.specs.Names.{NameMap, child}
 use Rattle.core_language.specs.Configurations as core
 use Rattle.core_language.specs.Acts as act
 use Rattle.core_language.specs.Steps.{effect}
+use Rattle.machine_values.specs.Cells.{Passes}
 use Rattle.machine_values.specs.Reading.{value_as}
 use Rattle.machine_tasks.specs.declared.tasks.Task.{Task}
 use Rattle.machine_tasks.specs.Reading.{act_in, place_of, task_of}
-use Rattle.machine_tasks.specs.Sharing.{place_with}
+use Rattle.machine_tasks.specs.Moving.{place_with}
 use Rattle.chan_machine.specs.Reading.{config_of, map_of}
 use Rattle.chan_machine.proofs.Maps.{put-map_of}
-use Rattle.chan_machine.proofs.Keeping.{child_other, other_kept, fits_put}
+use Rattle.chan_machine.proofs.Keeping.{channels_put, child_other, other_kept, fits_put, passes_put}
 use Rattle.chan_machine.proofs.Effects.{forks_now, one_task}
 use Rattle.chan_machine.proofs.exchanging.fork.Goals as goal
 
@@ -71,3 +72,23 @@ pub returns-in_err-put_child-clause-fits : goal.returns-in_err-put_child-clause-
 returns-in_err-put_child-clause-fits c = λ p t found.
     let same : c.put_child.new.tasks.entries ≡ c.args.config.now.tasks.entries = c.in_err-put_child.ensures.err_tasks in
     c.requires.fits p t (search (rules, same, found))
+
+pub offspring-requires : goal.offspring-requires
+offspring-requires c = record {
+  fits = (c.requires.fits c.args.name.now c.in-Some.task.now (search rules)).1;
+  act = c.requires.act c.in-Some.task.now (search rules);
+}
+
+pub returns-clause-ends : goal.returns-clause-ends
+returns-clause-ends c = λ test zero passes.
+    let config = c.args.config.now in
+    let old = c.in-Some.task.now in
+    let here : looked_up (slice_cmp nat_cmp) config.tasks c.args.name.now ≡ Some old = search rules in
+    let made = c.in_ok-made.made in
+    let branches = c.in_ok-made.ensures in
+    let key = c.in_ok-key.key in
+    let new = zero (child old.name old.forks) in
+    let born = passes_put test config.tasks c.put_child.new.tasks key made.child passes.0 c.in_ok-put_child.ensures.tasks (branches.child_ends test new (passes.0 c.args.name.now old here)) in (
+      c.branch-program.ensures.ends test (subst (Passes test) (sym branches.end_is) new) born,
+      channels_put test config.channels c.put_child.new.channels key None passes.1 c.in_ok-put_child.ensures.channels tt,
+    )

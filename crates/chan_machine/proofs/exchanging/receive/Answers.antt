@@ -10,6 +10,7 @@ use Rattle.machine_tasks.specs.Channels.{channel_in}
 use Rattle.machine_tasks.specs.Reading.{act_in, task_of}
 use Rattle.chan_machine.specs.Reading.{config_of, map_of}
 use Rattle.chan_machine.proofs.Maps.{take-map_of}
+use Rattle.chan_machine.proofs.Keeping.{channels_taken}
 use Rattle.chan_machine.proofs.Effects.{waits_at, no_receive, channel_has, receives_now, one_task}
 use Rattle.chan_machine.proofs.exchanging.receive.Goals as goal
 
@@ -43,3 +44,15 @@ returns-in-Some-Some-remove-clause-value c = λ t found is at.
     ap (λ (x : Task). effect C p x.forks (act_in program x)) same
     ∙ receives_now C p old.forks (act_in program old) (map_of (task_of program.nodes) c.accept.new.tasks) (map_of (option_map value_as) c.remove.new.self) channel receives.channel (value_as value) _
     receives.act_is ends (channel_has C config.channels channel (Some (Some value)) refl (sym c.in-Some-Some-remove.ensures.value ∙ ap Some c.in-Some-Some-remove.field-0-is)) ts cs
+
+pub slot-requires : goal.slot-requires
+slot-requires c = record {
+  fits = (c.requires.fits c.args.name.now c.in-Some.task.now (search rules)).1;
+  act = c.requires.act c.in-Some.task.now (search rules);
+}
+
+pub returns-in-Some-Some-remove-clause-ends : goal.returns-in-Some-Some-remove-clause-ends
+returns-in-Some-Some-remove-clause-ends c = λ test passes.
+    let config = c.args.config.now in
+    let stored = passes.1 c.args.channel c.in-Some-Some-remove.value (sym c.in-Some-Some-remove.ensures.value ∙ ap Some c.in-Some-Some-remove.field-0-is) in
+    (c.accept.ensures.ends test stored passes.0, channels_taken test config.channels c.remove.new.self c.args.channel passes.1 c.remove.ensures.updates)

@@ -10,6 +10,7 @@ use Rattle.machine_tasks.specs.Channels.{channel_in}
 use Rattle.machine_tasks.specs.Reading.{act_in, task_of}
 use Rattle.chan_machine.specs.Reading.{config_of, map_of}
 use Rattle.chan_machine.proofs.Maps.{put-map_of}
+use Rattle.chan_machine.proofs.Keeping.{channels_put}
 use Rattle.chan_machine.proofs.Effects.{stuck_send, no_send, channel_has, sends_now, one_task}
 use Rattle.chan_machine.proofs.exchanging.send.Goals as goal
 
@@ -42,3 +43,18 @@ returns-in-Some-None-clause-value c = λ t found is at.
     ap (λ (x : Task). effect C p x.forks (act_in program x)) same
     ∙ sends_now C p old.forks (act_in program old) (map_of (task_of program.nodes) c.move_on.new.tasks) (map_of (option_map value_as) c.fill.new.channels) channel sends.channel (value_as parcel.value) _
     sends.act_is ends (channel_has C config.channels channel (Some None) refl (sym c.in-Some-None.ensures.value ∙ ap Some c.in-Some-None.field-0-is)) ts cs
+
+pub parcel-requires : goal.parcel-requires
+parcel-requires c = record {
+  fits = (c.requires.fits c.args.name.now c.in-Some.task.now (search rules)).1;
+  act = c.requires.act c.in-Some.task.now (search rules);
+}
+
+pub returns-in-Some-None-clause-ends : goal.returns-in-Some-None-clause-ends
+returns-in-Some-None-clause-ends c = λ test passes.
+    let config = c.args.config.now in
+    let old = c.in-Some.task.now in
+    let here : looked_up (slice_cmp nat_cmp) config.tasks c.args.name.now ≡ Some old = search rules in (
+      c.move_on.ensures.ends test passes.0,
+      channels_put test config.channels c.fill.new.channels c.args.channel (Some c.in_ok-value.field-0.value) passes.1 c.fill.ensures (c.in_ok-value.ensures.ends test (passes.0 c.args.name.now old here)),
+    )

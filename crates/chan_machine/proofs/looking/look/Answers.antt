@@ -1,4 +1,4 @@
-use Rattle.std.proofs.Common.{◌≡◌, Some, rules, refl, ◌∙◌}
+use Rattle.std.proofs.Common.{◌≡◌, Some, rules, refl, sym, ◌∙◌}
 use Rattle.std.specs.Option.{option_map}
 use Rattle.std.specs.Ordering.{nat_cmp}
 use Rattle.std.specs.Cmp.Lexicographic.{slice_cmp}
@@ -7,8 +7,9 @@ use Rattle.std.proofs.lemmas.Result.{IfOk-weaker}
 use Rattle.std.proofs.lemmas.Int.{ints}
 use Rattle.machine_values.specs.Reading.{value_as, why_of, halt_of}
 use Rattle.machine_tasks.specs.Reading.{act_in}
+use Rattle.machine_tasks.proofs.ByKind.{forks}
 use Rattle.chan_machine.specs.Reading.{config_of, map_of, prints_of}
-use Rattle.chan_machine.proofs.Effects.{silent_effect, print_answer, end_effect, ended_effect, halted_effect, stuck_effect, forks_child, steps_here, steps_absent}
+use Rattle.chan_machine.proofs.Effects.{silent_effect, print_answer, end_effect, ended_effect, halted_effect, stuck_effect, forks_child, receives_somewhere, sends_somewhere, steps_here, steps_absent}
 use Rattle.chan_machine.proofs.looking.look.Goals as goal
 
 pub returns-in_default : goal.returns-in_default
@@ -113,7 +114,7 @@ returns-in-Some-channel c =
     let a = act_in program t in
     let found : looked_up (slice_cmp nat_cmp) config.tasks p ≡ Some t = search rules in
     let here = steps_here program config.tasks (map_of (option_map value_as) config.channels) (prints_of config.prints) p t found (c.requires.fits p t found).0 in
-    IfOk-weaker c.look_send.result _ _ (λ s answers. let (after, e) = answers C p t.forks a refl c.in-Send.ensures c.in-Some-channel.ensures in (after, here ∙ e)) c.look_send.ensures
+    IfOk-weaker c.look_send.result _ _ (λ s answers. let (after, e) = answers C p t.forks a refl c.in-Send.ensures c.in-Some-channel.ensures.name in (after, here ∙ e)) c.look_send.ensures
 
 pub returns-in-Some-channel-2 : goal.returns-in-Some-channel-2
 returns-in-Some-channel-2 c =
@@ -125,4 +126,13 @@ returns-in-Some-channel-2 c =
     let a = act_in program t in
     let found : looked_up (slice_cmp nat_cmp) config.tasks p ≡ Some t = search rules in
     let here = steps_here program config.tasks (map_of (option_map value_as) config.channels) (prints_of config.prints) p t found (c.requires.fits p t found).0 in
-    IfOk-weaker c.look_receive.result _ _ (λ s answers. let (after, e) = answers C p t.forks a refl c.in-Recv.ensures c.in-Some-channel-2.ensures in (after, here ∙ e)) c.look_receive.ensures
+    IfOk-weaker c.look_receive.result _ _ (λ s answers. let (after, e) = answers C p t.forks a refl c.in-Recv.ensures c.in-Some-channel-2.ensures.name in (after, here ∙ e)) c.look_receive.ensures
+
+pub offspring-requires-clause-act : goal.offspring-requires-clause-act
+offspring-requires-clause-act c = forks (act_in c.args.program.now c.in-Some.task.now) (sym c.in-Fork.ensures)
+
+pub unreachable-requires : goal.unreachable-requires
+unreachable-requires c = sends_somewhere (act_in c.args.program.now c.in-Some.task.now) c.in-Send.ensures c.in-None.ensures.name
+
+pub unreachable-requires-in-None-channel : goal.unreachable-requires-in-None-channel
+unreachable-requires-in-None-channel c = receives_somewhere (act_in c.args.program.now c.in-Some.task.now) c.in-Recv.ensures c.in-None-channel.ensures.name

@@ -14,7 +14,7 @@ returns-in-Some-channel c =
     let p = c.args.name.now in
     let t = c.in-Some.task.now in
     let here : looked_up (slice_cmp nat_cmp) config.tasks p ≡ Some t = search rules in
-    c.in-Some-channel.ensures ∙ looks_here c.args.program.now config p t here (c.requires.fits p t here).0
+    c.in-Some-channel.ensures.name ∙ looks_here c.args.program.now config p t here (c.requires.fits p t here).0
 
 pub returns-in-None : goal.returns-in-None
 returns-in-None c =
@@ -22,4 +22,4 @@ returns-in-None c =
     let p = c.args.name.now in
     let t = c.in-Some.task.now in
     let here : looked_up (slice_cmp nat_cmp) config.tasks p ≡ Some t = search rules in
-    c.in-None.ensures ∙ looks_here c.args.program.now config p t here (c.requires.fits p t here).0
+    c.in-None.ensures.name ∙ looks_here c.args.program.now config p t here (c.requires.fits p t here).0

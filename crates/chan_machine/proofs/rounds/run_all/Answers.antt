@@ -19,6 +19,7 @@ rounds-preserved c =
       c.in_ok-queue.ensures.parked,
       subst (λ n. ForksUpTo n (config_of program c.round.new.run.config).tasks) next c.in_ok-queue.ensures.forks,
       c.in_ok-queue.ensures.fits,
+      λ cells. c.in_ok-queue.ensures.cells (c.rounds.invariant.5 cells),
     )
 
 pub returns-clause-run : goal.returns-clause-run

@@ -1,6 +1,7 @@
 use Rattle.std.proofs.Common.{◌≡◌, ◌≤◌, ◌-◌}
 use Rattle.core_language.specs.Rounds.{run_of}
 use Rattle.core_programs.specs.Bodies.{program_of}
+use Rattle.chan_machine.specs.Ends.{IsOnOneThread}
 use Rattle.chan_machine.specs.Fits.{Fits}
 use Rattle.chan_machine.specs.Parking.{is_ready}
 use Rattle.chan_machine.specs.Reading.{config_of}
@@ -14,6 +15,7 @@ invariant-rounds l = (run_as l.fn.program l.run ≡ run_of (program_of l.fn.prog
     × Parked l.fn.program l.run (is_ready l.queue.ready) l.queue.waiting
     × ForksUpTo l.time (config_of l.fn.program l.run.config).tasks
     × Fits l.fn.program l.run.config
+    × (IsOnOneThread l.fn.run.config → IsOnOneThread l.run.config)
 
 abbrev pub decreases-rounds : goal.decreases-rounds
 decreases-rounds l = l.fn.rounds - l.time

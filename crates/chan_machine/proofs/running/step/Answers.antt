@@ -1,5 +1,5 @@
 use Rattle.std.proofs.Common.{sym, ap, ◌∙◌}
-use Rattle.std.proofs.lemmas.Result.{IfOk-weaker}
+use Rattle.std.proofs.lemmas.Result.{IfOk-weaker, on_ok_weaker}
 use Rattle.core_language.specs.Names.{NameMap}
 use Rattle.core_language.specs.Configurations as core
 use Rattle.core_language.specs.Steps.{machine_step}
@@ -20,3 +20,6 @@ returns-clause-limits c =
     let C = config_of program c.args.config.now in
     let before = ap (λ (ts : NameMap core.Task). machine_step (program_of program) (record C { tasks = ts }) c.args.name.now) (c.make_room.ensures.same program) in
     IfOk-weaker c.make_step.result _ _ (λ s is. unless_halted (program_of program) C (config_of program c.make_step.new.config) c.args.name.now s (sym before ∙ is)) c.make_step.ensures.value
+
+pub returns-clause-ends : goal.returns-clause-ends
+returns-clause-ends c = on_ok_weaker c.make_step.result (λ keeps test zero passes. keeps test zero (c.make_room.ensures.ends test passes.0, passes.1)) c.make_step.ensures.ends

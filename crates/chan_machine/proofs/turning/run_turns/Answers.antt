@@ -33,4 +33,5 @@ movers-preserved c =
       c.in_ok-turn.ensures.forks c.args.before rest (first_is_least name rest sorted) (subst (ForksWithin c.args.before (config_of program run.config).tasks) steps c.movers.invariant.2),
       rest_ascends name rest sorted,
       c.in_ok-turn.ensures.fits,
+      λ cells. c.in_ok-turn.ensures.cells (c.movers.invariant.5 cells),
     )

@@ -1,4 +1,5 @@
-use Rattle.std.proofs.Common.{◌≡◌, Some, None, map, rules, subst}
+use Rattle.std.proofs.Common.{◌≡◌, Some, None, map, refl, rules, subst}
+use Rattle.chan_machine.specs.Ends.{has_no_cell}
 use Rattle.chan_machine.specs.Reading.{config_of, entry_of, event_of}
 use Rattle.chan_machine.specs.Turning.{SpreadsTo, event_in}
 use Rattle.chan_machine.proofs.Turned.{not_moved, forks_still, forks_moved, still_parked, moved_parked}
@@ -37,3 +38,9 @@ returns-clause-forks c =
     let event = c.in-Some.event in
     let some : event_in s ≡ Some event = search rules in
     forks_moved program c.args.time c.args.run.now c.args.name (config_of program c.step.new.config) s c.in_ok-stepped.ensures.value event some
+
+pub returns-in_default-clause-cells : goal.returns-in_default-clause-cells
+returns-in_default-clause-cells c = c.in_ok-stepped.ensures.ends has_no_cell (λ name. refl)
+
+pub returns-clause-cells : goal.returns-clause-cells
+returns-clause-cells c = c.in_ok-stepped.ensures.ends has_no_cell (λ name. refl)

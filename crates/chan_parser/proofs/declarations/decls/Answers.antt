@@ -2,7 +2,7 @@ use Rattle.std.proofs.Common.{[], ◌∷◌}
 use Rattle.surface_grammar.specs.declared.words.Word.TheVariants as w
 use Rattle.surface_grammar.specs.Grammar.{yes}
 use Rattle.surface_grammar.specs.Declarations as spec
-use Rattle.operand_parser.proofs.Turns.{turn_on, begun}
+use Rattle.token_cursor.proofs.Turns.{turn_on, begun}
 use Rattle.chan_parser.proofs.declarations.decls.Goals as goal
 
 pub loop-turn-preserved : goal.loop-turn-preserved

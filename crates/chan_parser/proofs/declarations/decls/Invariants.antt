@@ -3,7 +3,7 @@ use Rattle.surface_grammar.specs.declared.words.Word.TheVariants as w
 use Rattle.surface_grammar.specs.Grammar.{yes}
 use Rattle.surface_grammar.specs.Declarations as spec
 use Rattle.surface_grammar.specs.Language.{At}
-use Rattle.operand_parser.specs.Syntax.{turns}
+use Rattle.token_cursor.specs.Syntax.{turns}
 use Rattle.chan_parser.proofs.declarations.decls.Given as goal
 
 abbrev pub invariant-loop-turn : goal.invariant-loop-turn

@@ -3,8 +3,8 @@ use Rattle.surface_grammar.specs.declared.words.Word.TheVariants as w
 use Rattle.surface_grammar.specs.Grammar.{word, ◌▷◌, yes}
 use Rattle.surface_grammar.specs.Declarations as spec
 use Rattle.surface_grammar.specs.Terms as items
-use Rattle.operand_parser.specs.Syntax.{sees}
-use Rattle.operand_parser.proofs.Turns.{turn_on, comma_item, list_on, begun}
+use Rattle.token_cursor.specs.Syntax.{sees}
+use Rattle.token_cursor.proofs.Turns.{turn_on, comma_item, list_on, begun}
 use Rattle.chan_parser.proofs.declarations.params.Goals as goal
 
 pub loop-turn-init : goal.loop-turn-init

@@ -4,7 +4,7 @@ use Rattle.surface_grammar.specs.Grammar.{word, ◌▷◌, yes}
 use Rattle.surface_grammar.specs.Declarations as spec
 use Rattle.surface_grammar.specs.Terms as items
 use Rattle.surface_grammar.specs.Language.{At}
-use Rattle.operand_parser.specs.Syntax.{turns}
+use Rattle.token_cursor.specs.Syntax.{turns}
 use Rattle.chan_parser.proofs.declarations.params.Given as goal
 
 abbrev pub invariant-loop-turn : goal.invariant-loop-turn

@@ -1,6 +1,8 @@
 use Rattle.std.proofs.Common.{refl, ap, ◌∙◌, ◌++◌, arith}
-use Rattle.core_programs.specs.Uses.{uses_in, uses_from}
-use Rattle.core_programs.proofs.Noting.{none_noted, node_noted, all_noted}
+use Rattle.name_uses.specs.Uses.{uses_in}
+use Rattle.core_programs.specs.Uses.{uses_from}
+use Rattle.name_uses.proofs.Noting.{none_noted}
+use Rattle.core_programs.proofs.Noting.{node_noted, all_noted}
 use Rattle.core_programs.proofs.uses.index_uses.Goals as goal
 
 pub nodes-init : goal.nodes-init

@@ -1,6 +1,7 @@
 use Rattle.std.proofs.Common.{◌≡◌, ◌++◌, drop}
 use Rattle.core_language.specs.Names.{Ident}
-use Rattle.core_programs.specs.Uses.{uses_in, uses_from}
+use Rattle.name_uses.specs.Uses.{uses_in}
+use Rattle.core_programs.specs.Uses.{uses_from}
 use Rattle.core_programs.proofs.uses.index_uses.Given as goal
 
 abbrev pub invariant-nodes : goal.invariant-nodes

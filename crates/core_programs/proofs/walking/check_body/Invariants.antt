@@ -1,8 +1,8 @@
 use Rattle.std.proofs.Common.{◌+◌}
 use Rattle.form_faults.specs.Faults.{least}
-use Rattle.core_programs.specs.Trees.{at_number, tree}
+use Rattle.core_programs.specs.Trees.{tree}
 use Rattle.core_programs.specs.Passes.{body_faults}
-use Rattle.core_programs.proofs.Walks.{Walking, size, later_size}
+use Rattle.core_programs.proofs.Walks.{at_number, Walking, size, later_size}
 use Rattle.core_programs.proofs.walking.check_body.Given as goal
 
 abbrev pub invariant-walk : goal.invariant-walk

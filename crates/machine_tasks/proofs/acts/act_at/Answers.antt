@@ -1,10 +1,12 @@
 use Rattle.std.proofs.Common.{int_le, if◌then◌else◌, sym, ap, ◌∙◌}
 use Rattle.core_language.specs.Computing.{machine, value_of, sum_of, supplied}
-use Rattle.core_language.specs.Acts.{act_at, at, bound, on_pair, on_sum}
+use Rattle.core_language.specs.Acts.{act_at, at, bound, on_pair, on_sum, chosen}
 use Rattle.core_language.specs.Acts as act
+use Rattle.core_language.specs.Programs.{arm_at}
 use Rattle.chan_syntax.specs.Reading.{term_of, supply_of}
-use Rattle.core_programs.specs.Bodies.{opened}
-use Rattle.machine_values.specs.Reading.{env_of}
+use Rattle.core_programs.specs.Bodies.{arms_opened, opened}
+use Rattle.std.specs.Option.{option_map}
+use Rattle.machine_values.specs.Reading.{env_of, value_as}
 use Rattle.machine_values.specs.Troubles.{done_of}
 use Rattle.machine_tasks.specs.Kinds.{Silent, Send, kind_as, kind_of, kind_after, kind_at_end}
 use Rattle.machine_tasks.proofs.ActKinds.{sends, chooses}
@@ -14,7 +16,7 @@ pub returns-in-Send1 : goal.returns-in-Send1
 returns-in-Send1 c = λ program forks rest callers last.
     let env = env_of c.args.binds.now in
     c.after-in-Send1.ensures ∙ ap (λ m. kind_after m (kind_as c.at_end.result)) c.weighed.ensures
-    ∙ ap (kind_after (done_of (supplied machine env (supply_of c.in-Send1.value)))) (c.at_end.ensures ∙ ap (λ o. kind_at_end o Send) c.lookup.ensures)
+    ∙ ap (kind_after (done_of (supplied machine env (supply_of c.in-Send1.value)))) (c.at_end.ensures ∙ ap (λ o. kind_at_end o Send) c.lookup.ensures.value)
     ∙ sends (supplied machine env (supply_of c.in-Send1.value)) (value_of env c.in-Send1.channel) (λ v channel. at (rest c.in-Send1.next) env callers)
     ∙ ap (λ x. kind_of (act_at machine program c.args.name.now forks (opened x rest) env callers)) (sym c.in-Send1.is)
 
@@ -30,13 +32,13 @@ pub returns-in-Split : goal.returns-in-Split
 returns-in-Split c = λ program forks rest callers last.
     let env = env_of c.args.binds.now in
     let go = λ (a b : _). at (rest c.in-Split.next) (bound (bound env c.in-Split.first.name a) c.in-Split.second.name b) callers in
-    c.at_pair.ensures go ∙ ap (λ o. kind_of (on_pair o (λ a b. act.Silent (go a b)))) c.lookup-in-Split.ensures
+    c.at_pair.ensures go ∙ ap (λ o. kind_of (on_pair o (λ a b. act.Silent (go a b)))) c.lookup-in-Split.ensures.value
     ∙ ap (λ x. kind_of (act_at machine program c.args.name.now forks (opened x rest) env callers)) (sym c.in-Split.is)
 
 pub returns-in-Match : goal.returns-in-Match
 returns-in-Match c = λ program forks rest callers last.
     let env = env_of c.args.binds.now in
-    let left = λ (a : _). at (rest c.in-Match.yes) (bound env c.in-Match.left.name a) callers in
-    let right = λ (a : _). at (rest c.in-Match.no) (bound env c.in-Match.right.name a) callers in
-    c.at_sum.ensures left right ∙ ap (λ o. kind_of (on_sum o (λ a. act.Silent (left a)) (λ a. act.Silent (right a)))) c.lookup-in-Match.ensures
+    c.at_sum.ensures rest env callers
+    ∙ ap (λ arms. kind_of (on_sum (option_map (λ v. value_as v.now) c.lookup-in-Match.result) (λ i v. chosen (arm_at (arms_opened arms rest) i) env callers v))) c.as_slice-in-Match.ensures
+    ∙ ap (λ o. kind_of (on_sum o (λ i v. chosen (arm_at (arms_opened c.in-Match.arms rest) i) env callers v))) c.lookup-in-Match.ensures.value
     ∙ ap (λ x. kind_of (act_at machine program c.args.name.now forks (opened x rest) env callers)) (sym c.in-Match.is)

@@ -1,16 +1,16 @@
-use Rattle.std.proofs.Common.{slice_get, sym, subst, ap, ◌∙◌}
-use Rattle.core_programs.specs.Formed.{nexts}
-use Rattle.core_programs.specs.Bodies.{opened, rest}
-use Rattle.machine_tasks.specs.Fits.{IsCall}
-use Rattle.machine_tasks.proofs.Places.{fits_last}
+use Rattle.std.proofs.Common.{OnOk, refl, sym, subst}
+use Rattle.core_language.specs.Configurations.{Place}
+use Rattle.machine_tasks.specs.Steps.{GoesTo}
+use Rattle.std.proofs.lemmas.Result.{on_ok_weaker}
+use Rattle.machine_tasks.proofs.Places.{on_err}
 use Rattle.machine_tasks.proofs.calls.call.Goals as goal
 
-pub put_above-requires-clause-next : goal.put_above-requires-clause-next
-put_above-requires-clause-next c = c.node.ensures.leads 0 c.in-Call.next (ap (λ x. slice_get (nexts x) 0) c.in-Call.is)
+pub returns-in_err-callee-clause-err : goal.returns-in_err-callee-clause-err
+returns-in_err-callee-clause-err c = on_err c.from_residual.result _ (record { name_is = refl; forks_are = refl; frames_are = refl })
 
-pub returns-clause-fits : goal.returns-clause-fits
-returns-clause-fits c =
-    let nodes = c.args.program.now.nodes in
-    let (front, whole) = c.in-Some.ensures.top in
-    let within = (fits_last nodes c.args.task.now.frames.items front c.in-Some.frame.now whole c.requires.fits).0 in
-    c.put_above.ensures.fits front c.in-Some.frame.now whole (within, subst IsCall (sym (c.node.ensures.opens ∙ ap (λ x. opened x (rest nodes)) c.in-Call.is)) tt) c.in_ok-callee.ensures.stands c.requires.fits
+pub returns-clause-ok : goal.returns-clause-ok
+returns-clause-ok c = λ front f is call.
+    subst (λ (p : Place). OnOk c.put_above.result (GoesTo c.args.program.now c.args.task.now c.put_above.new.task p)) (sym (c.in_ok-callee.ensures.entered _)) (c.put_above.ensures.ok front f is call)
+
+pub returns-clause-ends : goal.returns-clause-ends
+returns-clause-ends c = on_ok_weaker c.put_above.result (λ keeps test values. keeps test (c.in_ok-callee.ensures.ends test values)) c.put_above.ensures.ends

@@ -19,7 +19,7 @@ returns-in_ok-binds-in-Some-clause-entered c = λ callers.
     let found : function_named c.args.func.now (map (function_of nodes) funcs) ≡ Some (function_of nodes f) = function_found nodes c.args.func.now funcs ∙ ap (option_map (function_of nodes)) named in
     ap (λ (o : Option Function). entered o vs callers) found
     ∙ ap (λ e. Running (rest nodes f.first) e callers)
-    (sym (c.keep.ensures ∙ ap (kept (rest nodes f.first)) (c.in_ok-binds-in-Some.ensures ∙ ap (λ (ps : List Param). params_env (map param_of ps) vs) c.as_slice.ensures)))
+    (sym (c.keep.ensures.kept ∙ ap (kept (rest nodes f.first)) (c.in_ok-binds-in-Some.ensures.binds ∙ ap (λ (ps : List Param). params_env (map param_of ps) vs) c.as_slice.ensures)))
 
 pub returns-in-None-clause-entered : goal.returns-in-None-clause-entered
 returns-in-None-clause-entered c = λ callers.
@@ -28,3 +28,6 @@ returns-in-None-clause-entered c = λ callers.
     let vs = map value_as c.args.values.items in
     let named : func_named c.args.func.now funcs ≡ None = sym c.in-None.ensures.named in
     ap (λ (o : Option Function). entered o vs callers) (function_found nodes c.args.func.now funcs ∙ ap (option_map (function_of nodes)) named)
+
+pub returns-in_ok-binds-in-Some-clause-ends : goal.returns-in_ok-binds-in-Some-clause-ends
+returns-in_ok-binds-in-Some-clause-ends c = λ test passes. c.keep.ensures.ends test (c.in_ok-binds-in-Some.ensures.ends test passes)

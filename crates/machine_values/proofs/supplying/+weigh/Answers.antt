@@ -4,8 +4,8 @@ use Rattle.chan_syntax.specs.declared.operands.Supply.{Supply}
 use Rattle.chan_syntax.specs.Reading.{supply_of}
 use Rattle.machine_values.specs.Reading.{env_of}
 use Rattle.machine_values.specs.Troubles.{computed_of, depth_of, nested_of}
-use Rattle.machine_values.proofs.ReadSupplies.{supply_pair, supply_left, supply_right}
-use Rattle.machine_values.proofs.Weighing.{weighs_pair, weighs_left, weighs_right}
+use Rattle.chan_syntax.proofs.Rows.{supply_pair, supply_arm}
+use Rattle.machine_values.proofs.Weighing.{weighs_pair, weighs_arm}
 use Rattle.machine_values.proofs.supplying.+weigh.Goals as goal
 
 pub returns-in-Pair : goal.returns-in-Pair
@@ -19,16 +19,9 @@ returns-in-Pair t c =
     ∙ weighs_pair (supplied machine env (supply_of c.in-Pair.first)) (supplied machine env (supply_of c.in-Pair.second))
     ∙ ap (λ s. depth_of (supplied machine env s)) (sym (ap supply_of c.in-Pair.is ∙ supply_pair _ _))
 
-pub returns-in-Left : goal.returns-in-Left
-returns-in-Left t c =
+pub returns-in-Arm : goal.returns-in-Arm
+returns-in-Arm t c =
     let env = env_of c.args.binds.now in
     let weighed : Supply → Computed ℕ = λ s. depth_of (supplied machine env (supply_of s)) in
-    c.nested_in-in-Left.ensures ∙ ap (λ m. and_then m nested_of) (c.weigh.ensures ∙ ap weighed c.get-in-Left.ensures)
-    ∙ weighs_left (supplied machine env (supply_of c.in-Left.value)) ∙ ap (λ s. depth_of (supplied machine env s)) (sym (ap supply_of c.in-Left.is ∙ supply_left _))
-
-pub returns-in-Right : goal.returns-in-Right
-returns-in-Right t c =
-    let env = env_of c.args.binds.now in
-    let weighed : Supply → Computed ℕ = λ s. depth_of (supplied machine env (supply_of s)) in
-    c.nested_in-in-Right.ensures ∙ ap (λ m. and_then m nested_of) (c.weigh-in-Right.ensures ∙ ap weighed c.get-in-Right.ensures)
-    ∙ weighs_right (supplied machine env (supply_of c.in-Right.value)) ∙ ap (λ s. depth_of (supplied machine env s)) (sym (ap supply_of c.in-Right.is ∙ supply_right _))
+    c.nested_in-in-Arm.ensures ∙ ap (λ m. and_then m nested_of) (c.weigh.ensures ∙ ap weighed c.get-in-Arm.ensures)
+    ∙ weighs_arm c.in-Arm.field-0 (supplied machine env (supply_of c.in-Arm.value)) ∙ ap (λ s. depth_of (supplied machine env s)) (sym (ap supply_of c.in-Arm.is ∙ supply_arm _ _))

@@ -2,8 +2,8 @@ use Rattle.std.proofs.Common.{[], ◌∷◌, ◌++◌, ◌∙◌, ap}
 use Rattle.surface_grammar.specs.declared.words.Word.TheVariants as w
 use Rattle.surface_grammar.specs.Grammar.{word, ◌▷◌, yes}
 use Rattle.surface_grammar.specs.Operands as spec
-use Rattle.operand_parser.specs.Syntax.{sees}
-use Rattle.operand_parser.proofs.Turns.{turn_on, comma_item, list_on, begun}
+use Rattle.token_cursor.specs.Syntax.{sees}
+use Rattle.token_cursor.proofs.Turns.{turn_on, comma_item, list_on, begun}
 use Rattle.operand_parser.proofs.certificates.mentions.Goals as goal
 
 pub loop-turn-init : goal.loop-turn-init

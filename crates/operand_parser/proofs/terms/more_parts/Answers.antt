@@ -2,7 +2,7 @@ use Rattle.std.proofs.Common.{[], ◌∷◌}
 use Rattle.surface_grammar.specs.declared.words.Word.TheVariants as w
 use Rattle.surface_grammar.specs.Grammar.{yes}
 use Rattle.surface_grammar.specs.Terms as spec
-use Rattle.operand_parser.proofs.Turns.{turn_on, begun}
+use Rattle.token_cursor.proofs.Turns.{turn_on, begun}
 use Rattle.operand_parser.proofs.terms.more_parts.Goals as goal
 
 pub loop-turn-preserved : goal.loop-turn-preserved

@@ -3,7 +3,7 @@ use Rattle.surface_grammar.specs.declared.words.Word.TheVariants as w
 use Rattle.surface_grammar.specs.Grammar.{word, ◌▷◌, yes}
 use Rattle.surface_grammar.specs.Terms as spec
 use Rattle.surface_grammar.specs.Language.{At}
-use Rattle.operand_parser.specs.Syntax.{turns}
+use Rattle.token_cursor.specs.Syntax.{turns}
 use Rattle.operand_parser.proofs.terms.terms.Given as goal
 
 abbrev pub invariant-loop-turn : goal.invariant-loop-turn

@@ -1,4 +1,4 @@
-use Rattle.std.proofs.Common.{map}
+use Rattle.std.proofs.Common.{map, refl}
 use Rattle.std.proofs.lemmas.Result.{err_from_is_err_and}
 use Rattle.chan_syntax.specs.Reading.{term_of, ref_of}
 use Rattle.protocols.specs.Unfolding.{arguments}
@@ -13,3 +13,6 @@ pub returns-in_err-args-clause-err : goal.returns-in_err-args-clause-err
 returns-in_err-args-clause-err c =
     let p = err_from_is_err_and c.from_residual.result c.from_residual.ensures.1 in
     rw (p.1, p.2) (λ e. args_not_fit c.args.proto.now.params c.args.end.now.args _ (c.in_err-args.ensures.err e))
+
+pub returns-clause-places : goal.returns-clause-places
+returns-clause-places c = ((refl, refl), c.in_ok-args.ensures.places)

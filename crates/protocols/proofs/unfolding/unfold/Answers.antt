@@ -24,3 +24,7 @@ returns-clause-head c =
     let follows = rw c.as_slice-3.ensures at c.in_ok-last.ensures.ok in
     let formed = rw c.as_slice-4.ensures at c.in_ok-head.ensures.ok in
     the_head (under c.args.protos.now c.args.names.now.ints c.args.hyps.now c.args.certs.now) (ref_of c.args.from.now) (map letter_of c.args.path.now) _ (well_formed c.args.protos.now c.args.names.now.ints c.args.hyps.now c.args.certs.now c.requires.protos c.requires.certs) c.requires.arity (form, (ref_of c.in_ok-last.last.end, follows, formed))
+
+pub returns-clause-places : goal.returns-clause-places
+returns-clause-places c =
+    (c.in_ok-last.last.end, rw c.as_slice-3.ensures at c.in_ok-last.ensures.places, rw c.as_slice-4.ensures at c.in_ok-head.ensures.places)

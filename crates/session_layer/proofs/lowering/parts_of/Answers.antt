@@ -2,9 +2,9 @@ use Rattle.std.proofs.Common.{◌≡◌, ◌≤◌, length, ◌∷◌, List, ◌
 use Rattle.std.proofs.lemmas.List.{at_drop_more, drop_all}
 use Rattle.std.specs.List.{list_all}
 use Rattle.chan_syntax.specs.declared.surface_tree.Decl.{Decl}
-use Rattle.session_layer.specs.Core.{is_core_decl}
+use Rattle.core_trees.specs.Core.{is_core_decl}
 use Rattle.session_layer.specs.Drafts.{IsDraft}
-use Rattle.session_layer.proofs.CoreBlocks.{other_core}
+use Rattle.core_trees.proofs.CoreBlocks.{other_core}
 use Rattle.session_layer.proofs.Drafted.{all_lowered}
 use Rattle.session_layer.proofs.lowering.parts_of.Goals as goal
 

@@ -1,6 +1,6 @@
 use Rattle.std.proofs.Common.{◌≡◌, true, drop}
 use Rattle.std.specs.List.{list_all}
-use Rattle.session_layer.specs.Core.{is_core_decl}
+use Rattle.core_trees.specs.Core.{is_core_decl}
 use Rattle.session_layer.specs.Drafts.{IsDraft}
 use Rattle.session_layer.proofs.lowering.parts_of.Given as goal
 

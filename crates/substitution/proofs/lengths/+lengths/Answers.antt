@@ -1,8 +1,10 @@
 use Rattle.std.proofs.Common.{map, arith, sym, ◌∙◌, ap, subst}
-use Rattle.substitution.proofs.Shapes.{pair_of, sum_of}
+use Rattle.chan_syntax.proofs.Rows.{shape_pair as pair_of, shape_sum as sum_of}
 use Rattle.chan_syntax.specs.Reading.{limit_of, res_of, shape_of}
-use Rattle.linear_forms.specs.Replacing.{IsShortShape}
-use Rattle.linear_forms.proofs.Shorts.{longer_names, longer_limits, longer_res}
+use Rattle.linear_forms.specs.Replacing.{IsShortShape, IsShortRes}
+use Rattle.linear_forms.proofs.Shorts.{all_more, all_map, longer_names, longer_limits, longer_res}
+use Rattle.std.proofs.lemmas.List.{take_all}
+use Rattle.substitution.proofs.Listed.{short_from}
 use Rattle.substitution.proofs.lengths.+lengths.Goals as goal
 
 pub with_res-returns-clause-short : goal.with_res-returns-clause-short
@@ -15,4 +17,11 @@ with_shape-returns-in-Pair-clause-short n c =
 
 pub with_shape-returns-in-Sum-clause-short : goal.with_shape-returns-in-Sum-clause-short
 with_shape-returns-in-Sum-clause-short n c =
-    subst (IsShortShape c.with_res-in-Sum-2.result) (sym (ap shape_of c.in-Sum.is ∙ sum_of c.in-Sum.left c.in-Sum.right)) (longer_res c.with_res-in-Sum.result c.with_res-in-Sum-2.result (res_of c.in-Sum.left) c.with_res-in-Sum-2.ensures.more (rw c.get-in-Sum.ensures at c.with_res-in-Sum.ensures.short), rw c.get-in-Sum-2.ensures at c.with_res-in-Sum-2.ensures.short)
+    subst (IsShortShape c.with_resources.result) (sym (ap shape_of c.in-Sum.is ∙ sum_of c.in-Sum.arms)) (short_from c.with_resources.result (map res_of c.in-Sum.arms) (rw c.as_slice-in-Sum.ensures at c.with_resources.ensures.short))
+
+pub with_resources-loop-resource-preserved : goal.with_resources-loop-resource-preserved
+with_resources-loop-resource-preserved n c =
+    (omega (arith, c.loop-resource.invariant.0, c.with_res-longest.ensures.more), all_more (λ r. IsShortRes c.loop-resource.longest (res_of r)) (λ r. IsShortRes c.with_res-longest.result (res_of r)) c.args.resources.now c.loop-resource.resource-index c.resource-item.result c.loop-resource-test.true (λ r h. longer_res c.loop-resource.longest c.with_res-longest.result (res_of r) c.with_res-longest.ensures.more h) c.loop-resource.invariant.1 (rw (sym c.resource-item.is) c.with_res-longest.ensures.short))
+
+pub with_resources-returns-clause-short : goal.with_resources-returns-clause-short
+with_resources-returns-clause-short n c = all_map (IsShortRes c.loop-resource.longest) res_of c.args.resources.now (rw (take_all c.loop-resource.resource-index c.args.resources.now c.loop-resource-test.false) at c.loop-resource.invariant.1)

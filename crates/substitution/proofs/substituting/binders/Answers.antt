@@ -1,8 +1,8 @@
 use Rattle.std.proofs.Common.{◌≡◌, ◌+◌, ◌-◌, true, suc, length, map, sym, arith}
 use Rattle.chan_syntax.specs.Reading.{res_of}
-use Rattle.linear_forms.specs.Substitution.{IsRenamed, terms_of_res}
-use Rattle.linear_forms.specs.Replacing.{IsShort}
-use Rattle.linear_forms.proofs.Rebuilt.{binder_safe, binder_renamed}
+use Rattle.linear_forms.specs.Substitution.{terms_of_res}
+use Rattle.linear_forms.specs.Replacing.{IsShort, IsLonger}
+use Rattle.linear_forms.proofs.Rebuilt.{binder_safe, binder_longer}
 use Rattle.substitution.specs.Scopes.{put_in, before_of}
 use Rattle.substitution.proofs.Groups.{before_next, safe_next, renamed_next}
 use Rattle.substitution.proofs.substituting.binders.Goals as goal
@@ -17,5 +17,5 @@ loop-index-preserved c =
     record {
       before = before_next c.as_slice-names.result.now c.loop-index.index c.index-names-index.result c.loop-index.group c.push.new.self c.in_ok-made.made c.loop-index-test.true (sym c.index-names-index.is) c.in_ok-push.ensures.ok c.in_ok-made.ensures.name c.loop-index.invariant.before;
       safe = safe_next c.args.longest (map put_in c.args.put.now) (terms_of_res (before_of c.args.scope.now) (res_of c.args.res.now)) _ _ c.loop-index.group c.push.new.self c.in_ok-made.made one_less c.in_ok-push.ensures.ok c.loop-index.invariant.safe (rw c.in_ok-made.ensures.name (binder_safe c.args.longest (map put_in c.args.put.now) (terms_of_res (before_of c.args.scope.now) (res_of c.args.res.now)) (length c.args.scope.now + (length c.as_slice-names.result.now - (c.loop-index.index + 1))) c.index-names-index.result c.in_ok-made.made.made c.in_ok-caught.caught short c.in_ok-caught.ensures c.in_ok-made.ensures.kept long));
-      renamed = renamed_next (IsRenamed (map put_in c.args.put.now) (before_of c.args.scope.now) (res_of c.args.res.now)) c.as_slice-names.result.now c.loop-index.index c.index-names-index.result c.loop-index.group c.push.new.self c.in_ok-made.made c.loop-index-test.true (sym c.index-names-index.is) c.in_ok-push.ensures.ok c.loop-index.invariant.renamed (binder_renamed c.args.longest (map put_in c.args.put.now) (before_of c.args.scope.now) (res_of c.args.res.now) (length c.args.scope.now + (length c.as_slice-names.result.now - (c.loop-index.index + 1))) c.index-names-index.result c.in_ok-made.made.made c.in_ok-caught.caught short c.in_ok-caught.ensures c.in_ok-made.ensures.kept long);
+      longer = renamed_next (IsLonger c.args.longest (map put_in c.args.put.now) (before_of c.args.scope.now) (res_of c.args.res.now)) c.as_slice-names.result.now c.loop-index.index c.index-names-index.result c.loop-index.group c.push.new.self c.in_ok-made.made c.loop-index-test.true (sym c.index-names-index.is) c.in_ok-push.ensures.ok c.loop-index.invariant.longer (binder_longer c.args.longest (map put_in c.args.put.now) (before_of c.args.scope.now) (res_of c.args.res.now) (length c.args.scope.now + (length c.as_slice-names.result.now - (c.loop-index.index + 1))) c.index-names-index.result c.in_ok-made.made.made c.in_ok-caught.caught short c.in_ok-caught.ensures c.in_ok-made.ensures.kept long);
     }

@@ -3,6 +3,7 @@ use Rattle.std.proofs.lemmas.Result.{err_from_is_err_and}
 use Rattle.chan_syntax.specs.Reading.{term_of}
 use Rattle.linear_forms.specs.Substitution.{Fits, IsNormalPut}
 use Rattle.linear_forms.specs.Replacing.{IsReady}
+use Rattle.substitution.specs.Places.{IsPlaced, Words}
 use Rattle.substitution.specs.Scopes.{put_in, before_of, after_of}
 use Rattle.substitution.proofs.ReadyTerms.{all_at_map}
 use Rattle.substitution.proofs.EachNext.{each_next}
@@ -17,5 +18,7 @@ returns-in_err-subst_term-clause-err c =
     rw (p.1, p.2) (λ e all. c.in_err-subst_term.ensures.err e (all_at_map (Fits (map put_in c.args.put.now) (before_of c.args.scope.now)) term_of c.args.terms.now c.loop-term.term-index c.term-item.result all c.loop-term-test.true (sym c.term-item.is)))
 
 pub loop-term-preserved : goal.loop-term-preserved
-loop-term-preserved c =
-    rw c.in_ok-push.ensures.ok (each_next (IsNormalPut (map put_in c.args.put.now) (before_of c.args.scope.now) (after_of c.args.scope.now)) term_of term_of c.args.terms.now c.loop-term.term-index c.term-item.result c.loop-term.all _ c.loop-term-test.true (sym c.term-item.is) c.loop-term.invariant c.in_ok-subst_term.ensures.ok)
+loop-term-preserved c = record {
+  normal = rw c.in_ok-push.ensures.ok (each_next (IsNormalPut (map put_in c.args.put.now) (before_of c.args.scope.now) (after_of c.args.scope.now)) term_of term_of c.args.terms.now c.loop-term.term-index c.term-item.result c.loop-term.all _ c.loop-term-test.true (sym c.term-item.is) c.loop-term.invariant.normal c.in_ok-subst_term.ensures.ok);
+  places = rw c.in_ok-push.ensures.ok (each_next (IsPlaced c.args.put.now) (Words (before_of c.args.scope.now)) (Words (after_of c.args.scope.now)) c.args.terms.now c.loop-term.term-index c.term-item.result c.loop-term.all _ c.loop-term-test.true (sym c.term-item.is) c.loop-term.invariant.places c.in_ok-subst_term.ensures.places);
+}

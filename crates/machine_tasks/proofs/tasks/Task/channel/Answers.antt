@@ -4,6 +4,6 @@ use Rattle.machine_tasks.specs.Reading.{act_in}
 use Rattle.machine_tasks.proofs.Channels.{channel_less}
 use Rattle.machine_tasks.proofs.tasks.Task.channel.Goals as goal
 
-pub returns-then-not-has_channel : goal.returns-then-not-has_channel
-returns-then-not-has_channel c =
+pub returns-then-not-has_channel-clause-name : goal.returns-then-not-has_channel-clause-name
+returns-then-not-has_channel-clause-name c =
     sym (channel_less (act_in c.args.program.now c.args.self.now) (ap has_channel (sym c.act.ensures) ∙ sym c.has_channel.ensures ∙ c.if-not-has_channel.true))

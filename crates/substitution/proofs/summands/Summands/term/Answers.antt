@@ -3,6 +3,7 @@ use Rattle.std.proofs.lemmas.Result.{err_from_is_err_and}
 use Rattle.chan_syntax.specs.Reading.{part_of}
 use Rattle.linear_forms.specs.NormalTerms.{IsSameSum, IsNormal, spelled}
 use Rattle.substitution.proofs.Entries.{counts, same_sum, is_normal, numbers_fit, name_too_large, constant_too_large}
+use Rattle.substitution.proofs.Tokens.{spelled_at}
 use Rattle.substitution.proofs.summands.Summands.term.Goals as goal
 
 spelled_is : (c : goal.In_ok-all) → map part_of c.in_ok-all.all ≡ spelled (counts c.args.self.now c.len-ordered.ensures.ordered) c.args.self.now.constant
@@ -26,3 +27,6 @@ pub returns-in_err-all-clause-err : goal.returns-in_err-all-clause-err
 returns-in_err-all-clause-err c =
     let p = err_from_is_err_and c.from_residual-in_err-all.result c.from_residual-in_err-all.ensures.1 in
     rw (p.1, p.2) (λ e sum h fit. constant_too_large c.args.self.now c.len-ordered.ensures.ordered (c.in_err-all.ensures.err e) sum h fit)
+
+pub returns-clause-places : goal.returns-clause-places
+returns-clause-places c = λ tokens h. spelled_at c.args.self.now c.len-ordered.ensures.ordered c.in_ok-parts.parts c.in_ok-all.all c.in_ok-parts.ensures.places c.in_ok-all.ensures.places tokens h

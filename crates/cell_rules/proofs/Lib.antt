@@ -1,0 +1,16 @@
+pub mod Totals
+pub mod Turns
+pub mod Still
+pub mod Tasks
+pub mod Tallies
+pub mod Slots
+pub mod Fetches
+pub mod Puts
+pub mod Channels
+pub mod Claims
+pub mod Sends
+pub mod Retires
+pub mod Reopens
+pub mod Seats
+pub mod Closing
+pub mod Once

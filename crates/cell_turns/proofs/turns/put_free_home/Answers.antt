@@ -1,0 +1,17 @@
+use Rattle.std.proofs.Common.{rules, ℕ, ◌≡◌, ◌+◌, ◌*◌, ◌<◌, ◌≤◌, ◌^◌, sym, subst, refl, ap, ◌∙◌, List, [], ◌∷◌, arith, inl, inr, ⊎_elim, Some, None}
+use Rattle.cell_rules.specs.Lists.{In}
+use Rattle.hand_states.specs.Hands.{Store, Idle, Holds}
+use Rattle.hand_states.proofs.Closing as closing
+use Rattle.hand_calls.specs.At.{told}
+use Rattle.cell_turns.specs.Meanings.{meanings, numbers, named}
+use Rattle.cell_turns.specs.Crew.{IsIdle, HasFree, HasSpare, HoldsJob, HoldsFree, HoldsRight}
+use Rattle.cell_turns.proofs.Telling.{told_received, told_next}
+use Rattle.cell_turns.proofs.turns.put_free_home.Goals as goal
+
+pub home-requires-clause-holds : goal.home-requires-clause-holds
+home-requires-clause-holds c = (record c.requires.3.0 { free = c.args.cell.now.number.0 ∷ c.requires.3.0.free }, c.requires.3.1)
+
+pub returns : goal.returns
+returns c =
+    let crew = c.requires.0 in
+    ((c.home.ensures.at, crew.1, crew.2, c.home.ensures.parts ∙ crew.3), c.requires.2, (c.requires.3.0, c.home.ensures.home (record c.requires.3.0 { free = c.args.cell.now.number.0 ∷ c.requires.3.0.free }) c.requires.3.1))

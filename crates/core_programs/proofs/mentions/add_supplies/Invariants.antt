@@ -1,7 +1,0 @@
-use Rattle.std.proofs.Common.{◌≡◌, ◌++◌, drop, map}
-use Rattle.chan_syntax.specs.Reading.{supply_of}
-use Rattle.core_programs.specs.Uses.{supplies_names}
-use Rattle.core_programs.proofs.mentions.add_supplies.Given as goal
-
-abbrev pub invariant-supplies : goal.invariant-supplies
-invariant-supplies l = l.names.items ++ supplies_names (map supply_of (drop l.supply-index l.fn.supplies)) ≡ l.initial.names.items ++ supplies_names (map supply_of l.fn.supplies)

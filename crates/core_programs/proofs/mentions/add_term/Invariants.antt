@@ -1,7 +1,0 @@
-use Rattle.std.proofs.Common.{◌≡◌, ◌++◌, drop, map}
-use Rattle.chan_syntax.specs.Reading.{term_of, part_of}
-use Rattle.core_programs.specs.Uses.{term_names}
-use Rattle.core_programs.proofs.mentions.add_term.Given as goal
-
-abbrev pub invariant-parts : goal.invariant-parts
-invariant-parts l = l.names.items ++ term_names (map part_of (drop l.part-index l.fn.term.parts)) ≡ l.initial.names.items ++ term_names (term_of l.fn.term)

@@ -1,8 +1,0 @@
-use Rattle.std.proofs.Common.{◌≡◌, drop, map}
-use Rattle.chan_syntax.specs.Reading.{part_of}
-use Rattle.form_faults.specs.Numbers.{are_narrow}
-use Rattle.form_faults.specs.Sums.{difference_in}
-use Rattle.form_faults.proofs.narrowness.are_differences_narrow.Given as goal
-
-abbrev pub invariant-loop-part : goal.invariant-loop-part
-invariant-loop-part l = are_narrow (difference_in l.left l.right) (map part_of (drop l.part-index l.parts)) ≡ are_narrow (difference_in l.left l.right) (map part_of l.parts)

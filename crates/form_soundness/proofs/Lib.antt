@@ -1,0 +1,9 @@
+pub mod References
+pub mod Scopes
+pub mod Bodies
+pub mod Mains
+pub mod Places
+pub mod Heads
+pub mod Formed
+pub mod Example
+pub mod Runs

@@ -1,0 +1,9 @@
+pub mod Facts
+pub mod Covering
+pub mod Merging
+pub mod Ordered
+pub mod Gathering
+pub mod Replacing
+pub mod Keeping
+pub mod Finishing
+pub mod Closing

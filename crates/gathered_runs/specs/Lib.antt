@@ -1,0 +1,4 @@
+pub mod Complete
+pub mod Gathered
+pub mod Driving
+pub mod Closing

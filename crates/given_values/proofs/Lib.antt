@@ -1,0 +1,3 @@
+pub mod Obliging
+pub mod Entries
+pub mod Giving

@@ -1,0 +1,5 @@
+//! What is good is live.
+#![tactic(auto)]
+
+/// It does nothing: the lemmas of this crate are for those above it.
+pub fn laws() {}

@@ -1,0 +1,50 @@
+use Rattle.std.proofs.Common.{rules, ℕ, ◌≡◌, ◌+◌, ◌*◌, ◌<◌, sym, subst, refl, ap, ◌∙◌, List, [], ◌∷◌, arith, inl, inr}
+use Rattle.cell_rules.specs.declared.view.View.{View}
+use Rattle.cell_rules.specs.Words.{cell, task_at, claim_at, chan_at, retire_at, READY, RUNNING}
+use Rattle.cell_rules.specs.Lists.{count, In}
+use Rattle.cell_rules.specs.Marks.{InHand, Right, Free}
+use Rattle.cell_rules.specs.Plays.{Sat, noted, settling, taking}
+use Rattle.cell_rules.proofs.Totals.{one_same}
+use Rattle.one_shot_word.specs.Meaning.{means}
+use Rattle.hand_states.specs.Hands.{Store, Idle, Holds}
+use Rattle.hand_states.proofs.Marks.{apart}
+use Rattle.hand_states.proofs.Having as having
+use Rattle.hand_states.proofs.Closing as closing
+use Rattle.hand_calls.proofs.Reading.{sends_stay, retired_parts, ended_parts, receives_stay, sending_holds, receiving, retiring, ends}
+use Rattle.hand_calls.proofs.reopen.Goals as goal
+
+pub reopen-requires-clause-free : goal.reopen-requires-clause-free
+reopen-requires-clause-free g c =
+    let l = g.L.Load in
+    let p = g.P.Parcel in
+    let x = means l.meaning p.meaning in
+    let key = c.args.cells.now.table.shared.key in
+    let about : g.row.A.Denot × ℕ = (key.program, key.rounds) in
+    let n : ℕ = key.cells in
+    let v : View g.row.L.Denot (g.row.A.Denot × ℕ) = c.args.hand.now.seat.me.0 in
+    let m : ℕ = c.args.cell.number.0 in
+    let holds = c.requires.holds.1 in
+    (omega (arith, holds.has.free m, one_same m), holds.has.clear 11 m (omega arith) (omega arith), holds.has.clear 12 m (omega arith) (omega arith), omega (arith, holds.one 4 m (omega arith), apart 4 m 2 (x.number c.args.parent.now) (omega arith) (omega arith) (λ e. omega arith)))
+
+pub returns : goal.returns
+returns g c =
+    let l = g.L.Load in
+    let p = g.P.Parcel in
+    let x = means l.meaning p.meaning in
+    let key = c.args.cells.now.table.shared.key in
+    let about : g.row.A.Denot × ℕ = (key.program, key.rounds) in
+    let n : ℕ = key.cells in
+    let v : View g.row.L.Denot (g.row.A.Denot × ℕ) = c.args.hand.now.seat.me.0 in
+    let m : ℕ = c.args.cell.number.0 in
+    let title : List ℕ = l.meaning.title c.args.load in
+    let t = c.reopen.ensures.view in
+    let e = t.4 in
+    let next : m + n ≡ c.args.cell.next.0 = sym c.requires.cell.0 in
+    record {
+      at = (c.reopen.ensures.table ∙ c.requires.at.0, ap (λ (z : Sat g.row.L.Denot g.row.P.Denot (g.row.A.Denot × ℕ)). z.1) e, subst (λ (z : ℕ). 0 < z) (sym (ap (λ (z : Sat g.row.L.Denot g.row.P.Denot (g.row.A.Denot × ℕ)). z.0.parts) e)) c.requires.at.2);
+      parts = ap (λ (z : Sat g.row.L.Denot g.row.P.Denot (g.row.A.Denot × ℕ)). z.0.parts) e;
+      number = c.reopen.ensures.number;
+      names = subst (λ (z : List (ℕ × List ℕ)). In (c.args.cell.next.0, title) z) (sym (ap (λ (z : Sat g.row.L.Denot g.row.P.Denot (g.row.A.Denot × ℕ)). z.0.names) e)) (inl (λ q. (sym next q, title)));
+      reopens = λ s holds. subst (λ (z : View g.row.L.Denot (g.row.A.Denot × ℕ)). Holds x about s c.args.parent.now z) (sym (ap (λ (z : Sat g.row.L.Denot g.row.P.Denot (g.row.A.Denot × ℕ)). z.0) e))
+          (closing.reopens x about s v c.args.parent.now c.args.parent.now n m title (claim_at (cell n m)) (chan_at (cell n m)) (task_at (cell n m)) t.0 t.1 t.2 t.3 _ t.2 _ _ holds record { number = refl; program = refl; received = λ k i. i } (λ e i. inr i) (λ k i. inr i) (λ k i. i) (λ k i. i));
+    }

@@ -1,0 +1,4 @@
+pub mod Known
+pub mod Nexts
+pub mod Calls
+pub mod Laws

@@ -1,0 +1,4 @@
+pub mod Paths
+pub mod Answer
+pub mod Unstuck
+pub mod Endings

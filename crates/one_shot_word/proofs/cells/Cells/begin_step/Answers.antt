@@ -1,0 +1,17 @@
+use Rattle.std.proofs.Common.{rules, ℕ, ◌≡◌, ◌⊎◌, sym, subst, refl, ap, ◌∙◌, inl, inr, ◌+◌, ◌*◌, ◌<◌, ◌≤◌, length, List, [], ◌∷◌, arith}
+use Rattle.cell_rules.specs.Words.{cell, task_at, claim_at, chan_at, retire_at, load_at, parcel_at, READY, RUNNING, WAITING, ENDED, HALTED, FREE, BY, EMPTY, FULL, DONE, PARKED}
+use Rattle.one_shot_word.specs.Meaning.{means}
+use Rattle.cell_rules.proofs.Puts.{begins_kept}
+use Rattle.one_shot_word.proofs.cells.Cells.begin_step.Goals as goal
+
+pub swap-requires : goal.swap-requires
+swap-requires g c =
+    let l = g.L.Load in
+    let p = g.P.Parcel in
+    let x = means l.meaning p.meaning in
+    let key = c.args.self.now.table.shared.key in
+    let k : ℕ × ℕ × (g.row.A.Denot × ℕ) = (key.cells, key.hands, (key.program, key.rounds)) in
+    (c.requires.seat, c.task_word.ensures.1, rw (c.task_word.ensures.0, c.ready.ensures) (begins_kept x k _ _ _ c.args.number c.requires.opened.1.0 _ c.requires.live c.requires.opened.1.1 c.requires.opened.1.2 c.requires.opened.0 c.requires.opened.1.3))
+
+pub returns-clause-me : goal.returns-clause-me
+returns-clause-me g c = λ load at. rw (c.task_word.ensures.0, c.ready.ensures) at (c.swap.ensures.2 c.args.number _ load c.ready.ensures at)

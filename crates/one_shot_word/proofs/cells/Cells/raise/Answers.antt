@@ -1,0 +1,17 @@
+use Rattle.std.proofs.Common.{rules, ℕ, ◌≡◌, ◌⊎◌, sym, subst, refl, ap, ◌∙◌, inl, inr, ◌+◌, ◌*◌, ◌<◌, ◌≤◌, length, List, [], ◌∷◌, arith}
+use Rattle.cell_rules.specs.Words.{cell, task_at, claim_at, chan_at, retire_at, load_at, parcel_at, READY, RUNNING, WAITING, ENDED, HALTED, FREE, BY, EMPTY, FULL, DONE, PARKED}
+use Rattle.one_shot_word.specs.Meaning.{means}
+use Rattle.cell_rules.proofs.Slots.{raises_kept}
+use Rattle.one_shot_word.proofs.cells.Cells.raise.Goals as goal
+
+pub load-requires : goal.load-requires
+load-requires g c =
+    let l = g.L.Load in
+    let p = g.P.Parcel in
+    let x = means l.meaning p.meaning in
+    let key = c.args.self.now.table.shared.key in
+    let k : ℕ × ℕ × (g.row.A.Denot × ℕ) = (key.cells, key.hands, (key.program, key.rounds)) in
+    (c.requires.seat, c.task_word.ensures.1, rw c.task_word.ensures.0 (raises_kept x k _ _ _ c.args.number c.requires.live c.requires.has c.requires.fresh))
+
+pub returns-clause-me : goal.returns-clause-me
+returns-clause-me g c = rw c.task_word.ensures.0 at (c.load.ensures.2 c.args.self.now.table.shared.key.cells c.args.number (omega (arith, c.args.self.now.sized.1, c.args.self.now.sized.2)) c.task_word.ensures.0 c.requires.has)

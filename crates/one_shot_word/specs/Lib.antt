@@ -1,0 +1,5 @@
+pub mod Meaning
+pub mod Found
+pub mod Seats
+pub mod Hands
+pub mod Calls

@@ -1,0 +1,5 @@
+pub mod Examples
+pub mod FirstFaults
+pub mod Bodies
+pub mod OneForm
+pub mod Sums

@@ -1,0 +1,12 @@
+pub mod LinearForms
+pub mod Nameless
+pub mod Contexts
+pub mod Giving
+pub mod Paths
+pub mod Rules
+pub mod Outlined
+pub mod Laws
+pub mod Examples
+pub mod TreeExample
+pub mod Conditions
+pub mod Canonical

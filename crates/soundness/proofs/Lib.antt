@@ -1,0 +1,2 @@
+mod Commutes
+mod Example

@@ -1,0 +1,17 @@
+pub mod Members
+pub mod Own
+pub mod Names
+pub mod Reaching
+pub mod Moving
+pub mod Forking
+pub mod Telling
+pub mod Told
+pub mod Runs
+pub mod Apart
+pub mod Turns
+pub mod Turning
+pub mod Stepping
+pub mod Acting
+pub mod History
+pub mod Ending
+pub mod Laws

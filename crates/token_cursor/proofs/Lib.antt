@@ -1,0 +1,4 @@
+pub mod Places
+pub mod Opens
+pub mod Turns
+pub mod UpTo
