@@ -4,7 +4,7 @@ use Rattle.std.specs.Ordering.{nat_cmp}
 use Rattle.std.specs.Cmp.Lexicographic.{slice_cmp}
 use Rattle.std.specs.BTreeSet.{BTreeSet}
 use Rattle.std.specs.BTreeSet as set
-use Rattle.core_language.specs.Names.{Name}
+use Rattle.core_language.specs.Names.{Name, same_name}
 use Rattle.core_language.specs.Programs.{Program}
 use Rattle.core_language.specs.Configurations as core
 use Rattle.core_language.specs.Rounds.{Run, round, run_of}
@@ -13,7 +13,7 @@ use Rattle.core_programs.specs.Bodies.{program_of}
 use Rattle.machine_rounds.proofs.Rounded.{still_round, still_from}
 use Rattle.chan_machine.specs.declared.runs.Run.{Run as Machine}
 use Rattle.chan_machine.specs.declared.runs.Queue.{Queue}
-use Rattle.chan_machine.specs.Parking.{same, is_ready, waits}
+use Rattle.chan_machine.specs.Parking.{is_ready, waits}
 use Rattle.chan_machine.specs.Turning.{Parked, run_as}
 use Rattle.chan_machine.proofs.Parked.{same-symm}
 use Rattle.chan_machine.proofs.Turned.{made}
@@ -26,8 +26,8 @@ pub first_run : (program : Program) (D : core.Config) → D ≡ core.start progr
 unfolding run_of
 first_run program D is = ap (λ E. made E []) is
 
-pub only_root : (m n : BTreeSet Name) (k : Name) → k ≡ [] → set.Updates (slice_cmp nat_cmp) m n k true → (q : Name) → is_ready n q ≡ false → same q [] ≡ false
-only_root m n k root u q out = same-symm q [] ∙ ap (λ x. same x q) (sym root) ∙ by (same k q) (is_ready m q) (sym (u.0 q) ∙ out)
+pub only_root : (m n : BTreeSet Name) (k : Name) → k ≡ [] → set.Updates (slice_cmp nat_cmp) m n k true → (q : Name) → is_ready n q ≡ false → same_name q [] ≡ false
+only_root m n k root u q out = same-symm q [] ∙ ap (λ x. same_name x q) (sym root) ∙ by (same_name k q) (is_ready m q) (sym (u.0 q) ∙ out)
   where
     by : (a b : Bool) → cond a true b ≡ false → a ≡ false
     by true b e = e

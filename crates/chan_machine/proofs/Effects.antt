@@ -10,7 +10,7 @@ use Rattle.core_language.specs.Values.{Value}
 use Rattle.core_language.specs.Computing.{Halt, StuckWhy, FullChannel, NoChannel, machine}
 use Rattle.core_language.specs.Configurations.{Config, Place}
 use Rattle.core_language.specs.Configurations as core
-use Rattle.core_language.specs.Acts.{Act, act_of}
+use Rattle.core_language.specs.Acts.{Act, act_of, channel_in}
 use Rattle.core_language.specs.Acts as act
 use Rattle.core_language.specs.Steps.{Step, Moves, Waits, IsEnded, IsAbsent, IsHalted, IsStuck, Silent, Print, End, with_task, sent, received, forked, effect, step_at, machine_step}
 use Rattle.core_language.specs.Steps as step
@@ -21,7 +21,6 @@ use Rattle.machine_values.specs.Reading.{value_as}
 use Rattle.machine_tasks.specs.declared.tasks.Task.{Task}
 use Rattle.machine_tasks.specs.Kinds.{kind_of}
 use Rattle.machine_tasks.specs.Kinds as kind
-use Rattle.machine_tasks.specs.Channels.{channel_in}
 use Rattle.machine_tasks.specs.Moving.{place_after}
 use Rattle.machine_tasks.specs.Reading.{act_in, place_of, task_of}
 use Rattle.chan_machine.specs.declared.events.Stepped.{Stepped}

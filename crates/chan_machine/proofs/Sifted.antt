@@ -6,10 +6,10 @@ use Rattle.std.specs.Cmp.Lexicographic.{slice_cmp}
 use Rattle.std.specs.FinMap.{get}
 use Rattle.std.specs.Global.{Vec}
 use Rattle.std.specs.BTreeMap.{BTreeMap, get as looked_up}
-use Rattle.core_language.specs.Names.{Name}
+use Rattle.core_language.specs.Names.{Name, same_name}
 use Rattle.core_language.specs.Computing.{machine}
 use Rattle.core_language.specs.Configurations.{Config}
-use Rattle.core_language.specs.Acts.{Act, act_of}
+use Rattle.core_language.specs.Acts.{Act, act_of, channel_in}
 use Rattle.core_language.specs.Acts as act
 use Rattle.core_language.specs.Steps.{effect, sent, received}
 use Rattle.core_language.specs.Rounds.{is_move}
@@ -22,13 +22,12 @@ use Rattle.machine_rounds.proofs.Ready.{parked_more}
 use Rattle.machine_values.specs.declared.values.Value.{Value}
 use Rattle.machine_values.specs.Reading.{value_as}
 use Rattle.machine_tasks.specs.declared.tasks.Task.{Task}
-use Rattle.machine_tasks.specs.Channels.{channel_in}
 use Rattle.machine_tasks.specs.Kinds.{kind_of}
 use Rattle.machine_tasks.specs.Reading.{act_in, place_of, task_of}
 use Rattle.chan_machine.specs.declared.configurations.Config.{Config as Machine}
 use Rattle.chan_machine.specs.declared.runs.Run.{Run}
 use Rattle.chan_machine.specs.Reading.{config_of, map_of, prints_of}
-use Rattle.chan_machine.specs.Parking.{same, waits}
+use Rattle.chan_machine.specs.Parking.{waits}
 use Rattle.chan_machine.specs.Turning.{moves_with, run_as, Parked}
 use Rattle.chan_machine.proofs.Effects.{steps_here, steps_absent, channel_has}
 use Rattle.chan_machine.proofs.Maps.{get-map_of}
@@ -56,17 +55,6 @@ moves_by C p k act.IsEnded found h = refl
 moves_by C p k (act.IsHalted why) found h = refl
 moves_by C p k (act.IsStuck why) found h = refl
 
-same_channel : (a : Act) → channel_in a ≡ local.channel_in a
-same_channel (act.Silent place) = refl
-same_channel (act.Print z place) = refl
-same_channel (act.Fork c parent its) = refl
-same_channel (act.Send c v place) = refl
-same_channel (act.Recv c place) = refl
-same_channel act.End = refl
-same_channel act.IsEnded = refl
-same_channel (act.IsHalted why) = refl
-same_channel (act.IsStuck why) = refl
-
 module _ (program : Parts) (config : Machine) (p : Name) where
   abbrev C : Config
   C = config_of program config
@@ -79,20 +67,19 @@ module _ (program : Parts) (config : Machine) (p : Name) where
   pub moves_absent : looked_up (slice_cmp nat_cmp) config.tasks p ≡ None → false ≡ moves_in (program_of program) (record { config = C; entries = [] }) p
   moves_absent none = ap is_move (sym (steps_absent program config.tasks (map_of (option_map value_as) config.channels) (prints_of config.prints) p none))
 
-  pub looks_here : (t : Task) → looked_up (slice_cmp nat_cmp) config.tasks p ≡ Some t → t.name ≡ p → channel_in (act_in program t) ≡ local.channel_in (local.act_in (program_of program) C p)
-  looks_here t there named = same_channel (act_in program t)
-      ∙ ap (λ q. local.channel_in (act_of machine (program_of program) q t.forks (place_of program.nodes t.frames.items))) named
-      ∙ ap (λ o. local.channel_in (act_at (program_of program) p o)) (sym (get-map_of (task_of program.nodes) config.tasks p ∙ ap (option_map (task_of program.nodes)) there))
+  pub looks_here : (t : Task) → looked_up (slice_cmp nat_cmp) config.tasks p ≡ Some t → t.name ≡ p → channel_in (act_in program t) ≡ channel_in (local.act_in (program_of program) C p)
+  looks_here t there named = ap (λ q. channel_in (act_of machine (program_of program) q t.forks (place_of program.nodes t.frames.items))) named
+      ∙ ap (λ o. channel_in (act_at (program_of program) p o)) (sym (get-map_of (task_of program.nodes) config.tasks p ∙ ap (option_map (task_of program.nodes)) there))
 
-  pub looks_absent : looked_up (slice_cmp nat_cmp) config.tasks p ≡ None → None ≡ local.channel_in (local.act_in (program_of program) C p)
-  looks_absent none = ap (λ o. local.channel_in (act_at (program_of program) p o)) (sym (get-map_of (task_of program.nodes) config.tasks p ∙ ap (option_map (task_of program.nodes)) none))
+  pub looks_absent : looked_up (slice_cmp nat_cmp) config.tasks p ≡ None → None ≡ channel_in (local.act_in (program_of program) C p)
+  looks_absent none = ap (λ o. channel_in (act_at (program_of program) p o)) (sym (get-map_of (task_of program.nodes) config.tasks p ∙ ap (option_map (task_of program.nodes)) none))
 
 module _ (program : Parts) (run : Run) (name : Name) (rest movers : List Name) where
   abbrev Before : BTreeMap Name (Vec Name) → Type 0
   Before waiting = Parked program run (λ q. has (slice_cmp nat_cmp) (name ∷ rest) q || has (slice_cmp nat_cmp) movers q) waiting
 
   pub sorted_mover : (next : List Name) (waiting : BTreeMap Name (Vec Name)) → next ≡ movers ++ name ∷ [] → Before waiting → Parked program run (λ q. has (slice_cmp nat_cmp) rest q || has (slice_cmp nat_cmp) next q) waiting
-  sorted_mover next waiting pushed parked q dead = parked q (by (has (slice_cmp nat_cmp) rest q) (has (slice_cmp nat_cmp) movers q) (same q name)
+  sorted_mover next waiting pushed parked q dead = parked q (by (has (slice_cmp nat_cmp) rest q) (has (slice_cmp nat_cmp) movers q) (same_name q name)
       (ap (λ b. has (slice_cmp nat_cmp) rest q || b) (sym (ap (λ xs. has (slice_cmp nat_cmp) xs q) pushed ∙ any-push q name movers)) ∙ dead))
     where
       by : (a b s : Bool) → (a || (b || s)) ≡ false → ((s || a) || b) ≡ false
@@ -109,9 +96,9 @@ module _ (program : Parts) (run : Run) (name : Name) (rest movers : List Name) w
 
   out : (q : Name) → (has (slice_cmp nat_cmp) rest q || has (slice_cmp nat_cmp) movers q) ≡ false
       → ((has (slice_cmp nat_cmp) (name ∷ rest) q || has (slice_cmp nat_cmp) movers q) ≡ false) ⊎ (q ≡ name)
-  out q dead = by (same q name) refl
+  out q dead = by (same_name q name) refl
     where
-      by : (b : Bool) → same q name ≡ b → (((b || has (slice_cmp nat_cmp) rest q) || has (slice_cmp nat_cmp) movers q) ≡ false) ⊎ (q ≡ name)
+      by : (b : Bool) → same_name q name ≡ b → (((b || has (slice_cmp nat_cmp) rest q) || has (slice_cmp nat_cmp) movers q) ≡ false) ⊎ (q ≡ name)
       by true e = inr (same-is q name e)
       by false e = inl dead
 
@@ -125,7 +112,7 @@ module _ (program : Parts) (run : Run) (name : Name) (rest movers : List Name) w
       no c e = let both = sym nowhere ∙ e in cc
 
   pub sorted_waiting : (waiting later : BTreeMap Name (Vec Name)) (channel : Name) → Still → looks_at (program_of program) (run_as program run) name ≡ Some channel
-      → ((c q : Name) → waits later c q ≡ (waits waiting c q || (same c channel && same q name))) → Before waiting → After later
+      → ((c q : Name) → waits later c q ≡ (waits waiting c q || (same_name c channel && same_name q name))) → Before waiting → After later
   sorted_waiting waiting later channel still at put parked =
       parked_more (moves_in (program_of program)) (looks_at (program_of program)) (run_as program run) name _ _ (waits waiting) (waits later) still here out (λ c q w. put c q ∙ early (waits waiting c q) _ w) parked
     where
@@ -142,4 +129,4 @@ module _ (program : Parts) (run : Run) (name : Name) (rest movers : List Name) w
       here c e =
           let both = sym at ∙ e in
           let is : channel ≡ c = cc in
-          put c name ∙ last (waits waiting c name) (same c channel) (same name name) (ap (same c) is ∙ same-self c) (same-self name)
+          put c name ∙ last (waits waiting c name) (same_name c channel) (same_name name name) (ap (same_name c) is ∙ same-self c) (same-self name)

@@ -7,7 +7,7 @@ use Rattle.std.specs.BTreeSet.{BTreeSet}
 use Rattle.std.specs.BTreeSet as set
 use Rattle.std.specs.Global.{Vec}
 use Rattle.std.specs.BTreeMap.{BTreeMap}
-use Rattle.core_language.specs.Names.{Name}
+use Rattle.core_language.specs.Names.{Name, same_name}
 use Rattle.core_language.specs.Configurations as core
 use Rattle.core_language.specs.Steps.{Event, Fork, Moves, machine_step, after_step}
 use Rattle.core_language.specs.Rounds.{event_entries, is_move}
@@ -31,7 +31,7 @@ use Rattle.chan_machine.specs.declared.events.Stepped.TheVariants as stepped
 use Rattle.chan_machine.specs.declared.runs.Run.{Run}
 use Rattle.chan_machine.specs.Reading.{config_of, entry_of, event_of, step_of}
 use Rattle.chan_machine.specs.Fits.{ForksAt, is_moved}
-use Rattle.chan_machine.specs.Parking.{same, waits, is_ready}
+use Rattle.chan_machine.specs.Parking.{waits, is_ready}
 use Rattle.chan_machine.specs.Turning.{Parked, ParkedBut, SpreadsTo, event_in, run_as, shows_nothing}
 use Rattle.chan_machine.proofs.Maps.{get-map_of}
 use Rattle.chan_machine.proofs.Parked.{same-is, same-self, same-symm}
@@ -44,7 +44,7 @@ early false b e = cc
 
 pub forks_at : (program : Parts) (config : Config) (n : ℕ) (p : Name) (rest : List Name) → n < 4294967295 → ForksWithin n (config_of program config).tasks (p ∷ rest) → ForksAt config.tasks p
 forks_at program config n p rest less w t found =
-    let few : t.forks ≤ n = (w p (task_of program.nodes t) (get-map_of (task_of program.nodes) config.tasks p ∙ ap (option_map (task_of program.nodes)) found)).1 (early (same p p) (has (slice_cmp nat_cmp) rest p) (same-self p)) in
+    let few : t.forks ≤ n = (w p (task_of program.nodes t) (get-map_of (task_of program.nodes) config.tasks p ∙ ap (option_map (task_of program.nodes)) found)).1 (early (same_name p p) (has (slice_cmp nat_cmp) rest p) (same-self p)) in
     omega arith
 
 -- ---- what a step shows
@@ -112,12 +112,12 @@ module _ (p : Name) (before first : BTreeSet Name) (m n : BTreeMap Name (Vec Nam
   here false b h = cc
 
   kept_in : set.Updates (slice_cmp nat_cmp) before first p true → (q : Name) → is_ready before q ≡ true → is_ready first q ≡ true
-  kept_in u q h = u.0 q ∙ grows (same p q) (is_ready before q) h
+  kept_in u q h = u.0 q ∙ grows (same_name p q) (is_ready before q) h
 
-  put_in : set.Updates (slice_cmp nat_cmp) before first p true → (q : Name) → same q p ≡ true → is_ready first q ≡ true
-  put_in u q h = u.0 q ∙ here (same p q) (is_ready before q) (same-symm p q ∙ h)
+  put_in : set.Updates (slice_cmp nat_cmp) before first p true → (q : Name) → same_name q p ≡ true → is_ready first q ≡ true
+  put_in u q h = u.0 q ∙ here (same_name p q) (is_ready before q) (same-symm p q ∙ h)
 
-  pub spreads_alone : (e : Event) → set.Updates (slice_cmp nat_cmp) before first p true → ((q : Name) → alters_by p e q ≡ same q p) → ((c : Name) → uses_by e c ≡ false) → Spreads p e (is_ready before) (is_ready first) (waits m) (waits m)
+  pub spreads_alone : (e : Event) → set.Updates (slice_cmp nat_cmp) before first p true → ((q : Name) → alters_by p e q ≡ same_name q p) → ((c : Name) → uses_by e c ≡ false) → Spreads p e (is_ready before) (is_ready first) (waits m) (waits m)
   spreads_alone e u alters uses = record {
     more = kept_in u;
     altered = λ q h. put_in u q (sym (alters q) ∙ h);
@@ -125,8 +125,8 @@ module _ (p : Name) (before first : BTreeSet Name) (m n : BTreeMap Name (Vec Nam
     kept = λ c q t w. w;
   }
 
-  module _ (last : BTreeSet Name) (channel : Name) (out : (c q : Name) → waits n c q ≡ (waits m c q && not (same c channel))) where
-    at_channel : (c : Name) → same c channel ≡ true → c ≡ channel
+  module _ (last : BTreeSet Name) (channel : Name) (out : (c q : Name) → waits n c q ≡ (waits m c q && not (same_name c channel))) where
+    at_channel : (c : Name) → same_name c channel ≡ true → c ≡ channel
     at_channel = λ c e. same-is c channel e
 
     stays : (a b : Bool) → a ≡ true → b ≡ false → (a && not b) ≡ true
@@ -141,32 +141,32 @@ module _ (p : Name) (before first : BTreeSet Name) (m n : BTreeMap Name (Vec Nam
     woken_in true b h = refl
     woken_in false b h = h
 
-    waits_at : (c q : Name) → same c channel ≡ true → waits m c q ≡ true → waits m channel q ≡ true
+    waits_at : (c q : Name) → same_name c channel ≡ true → waits m c q ≡ true → waits m channel q ≡ true
     waits_at c q t w = ap (λ x. waits m x q) (sym (at_channel c t)) ∙ w
 
     pub spreads_at : (e : Event) → set.Updates (slice_cmp nat_cmp) before first p true → ((q : Name) → is_ready last q ≡ (is_ready first q || waits m channel q))
-        → ((q : Name) → alters_by p e q ≡ same q p) → ((c : Name) → uses_by e c ≡ same c channel) → Spreads p e (is_ready before) (is_ready last) (waits m) (waits n)
+        → ((q : Name) → alters_by p e q ≡ same_name q p) → ((c : Name) → uses_by e c ≡ same_name c channel) → Spreads p e (is_ready before) (is_ready last) (waits m) (waits n)
     spreads_at e u woke alters uses = record {
       more = λ q h. woke q ∙ later_in (is_ready first q) (waits m channel q) (kept_in u q h);
       altered = λ q h. woke q ∙ later_in (is_ready first q) (waits m channel q) (put_in u q (sym (alters q) ∙ h));
       woken = λ c q t w. woke q ∙ woken_in (is_ready first q) (waits m channel q) (waits_at c q (sym (uses c) ∙ t) w);
-      kept = λ c q t w. out c q ∙ stays (waits m c q) (same c channel) w (sym (uses c) ∙ t);
+      kept = λ c q t w. out c q ∙ stays (waits m c q) (same_name c channel) w (sym (uses c) ∙ t);
     }
 
     pub spreads_fork : (second : BTreeSet Name) (child : Name) → child ≡ channel → set.Updates (slice_cmp nat_cmp) before first p true → set.Updates (slice_cmp nat_cmp) first second child true
         → ((q : Name) → is_ready last q ≡ (is_ready second q || waits m channel q)) → Spreads p (Fork channel) (is_ready before) (is_ready last) (waits m) (waits n)
     spreads_fork second child is u v woke = record {
       more = λ q h. woke q ∙ later_in (is_ready second q) (waits m channel q) (on q (kept_in u q h));
-      altered = λ q h. woke q ∙ later_in (is_ready second q) (waits m channel q) (either q (same q channel) refl h);
+      altered = λ q h. woke q ∙ later_in (is_ready second q) (waits m channel q) (either q (same_name q channel) refl h);
       woken = λ c q t w. woke q ∙ woken_in (is_ready second q) (waits m channel q) (waits_at c q t w);
-      kept = λ c q t w. out c q ∙ stays (waits m c q) (same c channel) w t;
+      kept = λ c q t w. out c q ∙ stays (waits m c q) (same_name c channel) w t;
     }
       where
         on : (q : Name) → is_ready first q ≡ true → is_ready second q ≡ true
-        on q h = v.0 q ∙ grows (same child q) (is_ready first q) h
+        on q h = v.0 q ∙ grows (same_name child q) (is_ready first q) h
 
-        either : (q : Name) (b : Bool) → same q channel ≡ b → (b || same q p) ≡ true → is_ready second q ≡ true
-        either q true e h = v.0 q ∙ here (same child q) (is_ready first q) (same-symm child q ∙ ap (same q) is ∙ e)
+        either : (q : Name) (b : Bool) → same_name q channel ≡ b → (b || same_name q p) ≡ true → is_ready second q ≡ true
+        either q true e h = v.0 q ∙ here (same_name child q) (is_ready first q) (same-symm child q ∙ ap (same_name q) is ∙ e)
         either q false e h = on q (put_in u q h)
 
 -- ---- looks

@@ -2,12 +2,11 @@
 ghost use Rattle.std.specs.Prelude.{◌≡◌, ℕ, true, Some, IfOk};
 ghost use Rattle.std.specs.Option.{option_map};
 ghost use Rattle.core_language.specs.Names.{Name as NameOf};
-ghost use Rattle.core_language.specs.Acts.{Act as ActOf};
+ghost use Rattle.core_language.specs.Acts.{Act as ActOf, channel_in};
 ghost use Rattle.core_language.specs.Configurations.{Config as ConfigOf};
 ghost use Rattle.core_language.specs.Steps.{Moves, Print, effect, machine_step};
 ghost use Rattle.core_programs.specs.Bodies.{program_of};
 ghost use Rattle.machine_values.specs.Reading.{value_as};
-ghost use Rattle.machine_tasks.specs.Channels.{channel_in};
 ghost use Rattle.machine_tasks.specs.Kinds.{kind_of, Send, Recv};
 ghost use Rattle.chan_machine.specs.Fits.{Fits, is_moved};
 ghost use Rattle.chan_machine.specs.Looking.{Answers};

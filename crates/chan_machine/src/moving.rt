@@ -4,11 +4,11 @@ ghost use Rattle.std.specs.Option.{option_map};
 ghost use Rattle.std.specs.Ordering.{nat_cmp};
 ghost use Rattle.std.specs.Cmp.Lexicographic.{slice_cmp};
 ghost use Rattle.std.specs.BTreeMap.{get as looked_up};
+ghost use Rattle.core_language.specs.Acts.{channel_in};
 ghost use Rattle.core_language.specs.Names.{Name as NameOf};
 ghost use Rattle.core_language.specs.Rounds.{moves};
 ghost use Rattle.core_programs.specs.Bodies.{program_of};
-ghost use Rattle.machine_rounds.specs.Local.{act_in, channel_in};
-ghost use Rattle.machine_tasks.specs.Channels.{channel_in as channel_of};
+ghost use Rattle.machine_rounds.specs.Local.{act_in};
 ghost use Rattle.machine_tasks.specs.Fits.{FramesFit};
 ghost use Rattle.machine_tasks.specs.Kinds.{kind_as};
 ghost use Rattle.machine_tasks.specs.Reading.{act_in as task_act};
@@ -36,7 +36,7 @@ fn passes(act: &Act, found: Option<&Option<Value>>) -> bool
 /// What is on the channel at which the task's next act looks.
 fn found<'a>(program: &Program, config: &'a Config, task: &Task) -> Option<&'a Option<Value>>
     requires fits { FramesFit program.now.nodes task.now.frames.items }
-    ensures { (c : NameOf) → channel_of (task_act program.now task.now) ≡ Some c → option_map (λ stored. stored.now) result ≡ looked_up (slice_cmp nat_cmp) config.now.channels c }
+    ensures { (c : NameOf) → channel_in (task_act program.now task.now) ≡ Some c → option_map (λ stored. stored.now) result ≡ looked_up (slice_cmp nat_cmp) config.now.channels c }
 {
     match task.channel(program) {
         Some(channel) => config.channels.get(&channel.name),

@@ -1,6 +1,7 @@
 //! Who waits at which channel, and who may move.
 ghost use Rattle.std.specs.Prelude.{◌≡◌, ◌||◌, ◌&&◌, not, List, ℕ, OnOk};
-ghost use Rattle.chan_machine.specs.Parking.{is_ready, same, waits};
+ghost use Rattle.core_language.specs.Names.{same_name};
+ghost use Rattle.chan_machine.specs.Parking.{is_ready, waits};
 
 use crate::runs::{Ready, Waiting};
 use chan_base::{Memory, Name};
@@ -13,7 +14,7 @@ pub(crate) fn park(
     channel: &Name,
     name: Name,
 ) -> Result<(), Memory>
-    ensures waits { OnOk result ((c q : List ℕ) → waits waiting.new c q ≡ (waits waiting.old c q || (same c channel.now && same q name))) }
+    ensures waits { OnOk result ((c q : List ℕ) → waits waiting.new c q ≡ (waits waiting.old c q || (same_name c channel.now && same_name q name))) }
 {
     let mut names = match waiting.remove(channel) {
         Some(names) => names,
@@ -27,7 +28,7 @@ pub(crate) fn park(
 
 /// Who waits at the channel may move, and nobody waits there any more.
 pub(crate) fn wake(waiting: &mut Waiting, channel: &Name, ready: &mut Ready) -> Result<(), Memory>
-    ensures waits { OnOk result ((c q : List ℕ) → waits waiting.new c q ≡ (waits waiting.old c q && not (same c channel.now))) }
+    ensures waits { OnOk result ((c q : List ℕ) → waits waiting.new c q ≡ (waits waiting.old c q && not (same_name c channel.now))) }
     ensures ready { OnOk result ((q : List ℕ) → is_ready ready.new q ≡ (is_ready ready.old q || waits waiting.old channel.now q)) }
 {
     if let Some(names) = waiting.remove(channel) {

@@ -21,6 +21,12 @@ pub data Act : Type 0 where
   IsHalted : Halt → Act
   IsStuck : StuckWhy → Act
 
+-- the channel of a send or a receive
+abbrev pub channel_in : Act → Option Name
+channel_in (Send channel v place) = Some channel
+channel_in (Recv channel place) = Some channel
+channel_in other = None
+
 -- an act that needs a result first
 abbrev pub with_result : {A : Type 0} → Computed A → (A → Act) → Act
 with_result (Done a) go = go a

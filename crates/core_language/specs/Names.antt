@@ -1,6 +1,6 @@
 -- Names of tasks and channels, and names in programs.
 use Rattle.std.specs.Prelude.{ℕ, Bool, List, [], ◌∷◌, ◌++◌, nat_eq}
-use Rattle.std.specs.Ordering.{nat_cmp}
+use Rattle.std.specs.Ordering.{nat_cmp, eq_by_cmp}
 use Rattle.std.specs.Cmp.Lexicographic.{slice_cmp, pointwise}
 use Rattle.std.specs.FinMap.{FinMap}
 
@@ -14,6 +14,9 @@ main = []
 -- what the task's fork with this number makes
 abbrev pub child : Name → ℕ → Name
 child p k = p ++ k ∷ []
+
+abbrev pub same_name : Name → Name → Bool
+same_name = eq_by_cmp (slice_cmp nat_cmp)
 
 -- what has a name, in the order of names
 abbrev pub NameMap : Type 0 → Type 0

@@ -1,10 +1,10 @@
 -- Runs of a program of form that is outlined are sound.
 use Rattle.std.proofs.Common.{refl}
+use Rattle.core_language.specs.Names.{same_name}
 use Rattle.core_language.specs.Schedules.{after}
 use Rattle.core_programs.specs.Bodies.{program_of}
 use Rattle.graphs.specs.Graph.{edges, same_node}
 use Rattle.graphs.proofs.Fewer.{IsForest-from}
-use Rattle.good_configurations.specs.Uses.{same_name}
 use Rattle.moved_uses.proofs.Bags.{holder-is, holder-self}
 use Rattle.good_progress.proofs.Progress.{good_live}
 use Rattle.standing_contexts.specs.Places.{PlaceAt}

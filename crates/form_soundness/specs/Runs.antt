@@ -1,6 +1,6 @@
 -- What holds of the runs of a program of form that is outlined.
 use Rattle.std.specs.Prelude.{◌≡◌, List, []}
-use Rattle.core_language.specs.Names.{Name}
+use Rattle.core_language.specs.Names.{Name, same_name}
 use Rattle.core_language.specs.Configurations.{start}
 use Rattle.core_language.specs.Schedules.{after, IsSafe, IsLive}
 use Rattle.core_language.specs.Rounds.{run_of}
@@ -10,7 +10,6 @@ use Rattle.core_programs.specs.Bodies.{program_of}
 use Rattle.core_programs.specs.Form.{HasForm}
 use Rattle.graphs.specs.Graph.{IsForest, edges, same_node}
 use Rattle.outline_language.specs.Outlined.{IsOutlined}
-use Rattle.good_configurations.specs.Uses.{same_name}
 use Rattle.good_configurations.specs.Good.{Good}
 use Rattle.standing_contexts.specs.Places.{PlaceAt}
 use Rattle.one_answer.specs.Following.{NoneHalts, moves_along, prints_by, prints_in}

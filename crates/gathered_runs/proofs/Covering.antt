@@ -4,7 +4,7 @@ use Rattle.std.specs.Ordering.{nat_cmp}
 use Rattle.std.specs.Cmp.Lexicographic.{slice_cmp}
 use Rattle.std.specs.FinMap.{empty, get-empty}
 use Rattle.std.proofs.lemmas.Bool.{cases_lt}
-use Rattle.core_language.specs.Names.{Name, NameMap, main}
+use Rattle.core_language.specs.Names.{Name, NameMap, main, same_name}
 use Rattle.core_language.specs.Values.{Value}
 use Rattle.core_language.specs.Programs.{Program, main_function}
 use Rattle.core_language.specs.Configurations.{Place, Task, started}
@@ -13,7 +13,6 @@ use Rattle.core_language.specs.Acts.{act_of}
 use Rattle.core_language.specs.Acts as act
 use Rattle.core_language.specs.Steps.{Fork, Recv}
 use Rattle.core_language.specs.Rounds.{Entry, run_of}
-use Rattle.machine_rounds.specs.Local.{same}
 use Rattle.machine_rounds.proofs.Rounded.{same-self, same-is}
 use Rattle.task_rounds.specs.Members.{In}
 use Rattle.task_rounds.specs.Telling.{is_send_on, is_receive_on, was_sent, was_received}
@@ -41,7 +40,7 @@ record Furthest (tasks : List KnownTask) (p : Name) : Type 0 where
 
 furthest : (tasks : List KnownTask) (p : Name) → ((k : KnownTask) → In k tasks → k.name ≡ p → ⊥) ⊎ Furthest tasks p
 furthest [] p = inl (λ k h e. h)
-furthest (k ∷ ks) p = by (same k.name p) refl (furthest ks p)
+furthest (k ∷ ks) p = by (same_name k.name p) refl (furthest ks p)
   where
     none_more : (l : KnownTask) → In l (k ∷ ks) → (k.name ≡ p → ⊥) → ((l : KnownTask) → In l ks → l.name ≡ p → ⊥) → l.name ≡ p → ⊥
     none_more l (inl is) other none e = other (ap (λ (x : KnownTask). x.name) (sym is) ∙ e)
@@ -51,8 +50,8 @@ furthest (k ∷ ks) p = by (same k.name p) refl (furthest ks p)
     no_later l (inl is) n less rest e = let same_time = ap (λ (x : KnownTask). x.time) is in omega arith
     no_later l (inr h) n less rest e = rest l h e
 
-    by : (b : Bool) → same k.name p ≡ b → ((l : KnownTask) → In l ks → l.name ≡ p → ⊥) ⊎ Furthest ks p → ((l : KnownTask) → In l (k ∷ ks) → l.name ≡ p → ⊥) ⊎ Furthest (k ∷ ks) p
-    by false e (inl none) = inl (λ l h is. none_more l h (λ f. let both = sym e ∙ ap (λ q. same q p) f ∙ same-self p in cc) none is)
+    by : (b : Bool) → same_name k.name p ≡ b → ((l : KnownTask) → In l ks → l.name ≡ p → ⊥) ⊎ Furthest ks p → ((l : KnownTask) → In l (k ∷ ks) → l.name ≡ p → ⊥) ⊎ Furthest (k ∷ ks) p
+    by false e (inl none) = inl (λ l h is. none_more l h (λ f. let both = sym e ∙ ap (λ q. same_name q p) f ∙ same-self p in cc) none is)
     by false e (inr far) = inr (record {
       task = far.task;
       is_there = inr far.is_there;
@@ -61,7 +60,7 @@ furthest (k ∷ ks) p = by (same k.name p) refl (furthest ks p)
     })
       where
         other : (l : KnownTask) → In l (k ∷ ks) → l.name ≡ p → l.time ≤ far.task.time
-        other l (inl is) f = let both = sym e ∙ ap (λ q. same q p) (ap (λ (x : KnownTask). x.name) (sym is) ∙ f) ∙ same-self p in let bad : ⊥ = cc in absurd bad
+        other l (inl is) f = let both = sym e ∙ ap (λ q. same_name q p) (ap (λ (x : KnownTask). x.name) (sym is) ∙ f) ∙ same-self p in let bad : ⊥ = cc in absurd bad
         other l (inr h) f = far.last l h f
     by true e (inl none) = inr (record { task = k; is_there = inl refl; named = same-is k.name p e; last = λ l h is. no_later l h k.time (omega arith) (λ m g f. absurd (none m g f)) is })
     by true e (inr far) = of_two (cases_lt far.task.time k.time)

@@ -1,10 +1,9 @@
 -- One hand comes to an end alone, and then the lists make the run.
 use Rattle.std.proofs.Common.{◌≡◌, ◌⊎◌, inl, inr, ℕ, zero, suc, ◌+◌, ◌-◌, ◌*◌, ◌^◌, ◌≤◌, ◌<◌, max, Bool, true, false, nat_lt, if◌then◌else◌, List, [], ◌∷◌, ◌++◌, Some, refl, sym, ap, subst, ◌∙◌, pow_pos, pow_mono, pow-suc, mul-suc, length, arith}
-use Rattle.core_language.specs.Names.{Name}
+use Rattle.core_language.specs.Names.{Name, same_name}
 use Rattle.core_language.specs.Values.{Value}
 use Rattle.core_language.specs.Programs.{Program}
 use Rattle.core_language.specs.Steps.{Recv}
-use Rattle.machine_rounds.specs.Local.{same}
 use Rattle.machine_rounds.proofs.Rounded.{same-self, same-is}
 use Rattle.task_rounds.specs.Members.{In}
 use Rattle.task_rounds.specs.Reaching.{NeverSticks}
@@ -134,13 +133,13 @@ record Found (parcels : List KnownParcel) (c : Name) : Type 0 where
 
 find_parcel : (parcels : List KnownParcel) (c : Name) → ((v : Value) → HasParcel parcels c v → ⊥) ⊎ Found parcels c
 find_parcel [] c = inl (λ v (q, h, channel, value). h)
-find_parcel (q ∷ qs) c = by (same q.channel c) refl (find_parcel qs c)
+find_parcel (q ∷ qs) c = by (same_name q.channel c) refl (find_parcel qs c)
   where
-    none : same q.channel c ≡ false → ((v : Value) → HasParcel qs c v → ⊥) → (v : Value) → HasParcel (q ∷ qs) c v → ⊥
-    none e rest v (r, inl is, channel, value) = let both = sym e ∙ ap (λ d. same d c) (ap (λ (x : KnownParcel). x.channel) (sym is) ∙ channel) ∙ same-self c in cc
+    none : same_name q.channel c ≡ false → ((v : Value) → HasParcel qs c v → ⊥) → (v : Value) → HasParcel (q ∷ qs) c v → ⊥
+    none e rest v (r, inl is, channel, value) = let both = sym e ∙ ap (λ d. same_name d c) (ap (λ (x : KnownParcel). x.channel) (sym is) ∙ channel) ∙ same-self c in cc
     none e rest v (r, inr h, channel, value) = rest v (r, h, channel, value)
 
-    by : (b : Bool) → same q.channel c ≡ b → ((v : Value) → HasParcel qs c v → ⊥) ⊎ Found qs c → ((v : Value) → HasParcel (q ∷ qs) c v → ⊥) ⊎ Found (q ∷ qs) c
+    by : (b : Bool) → same_name q.channel c ≡ b → ((v : Value) → HasParcel qs c v → ⊥) ⊎ Found qs c → ((v : Value) → HasParcel (q ∷ qs) c v → ⊥) ⊎ Found (q ∷ qs) c
     by true e other = inr (record { parcel = q; rest = qs; takes = record { front = []; back = qs; is = refl; leaves = refl }; on = same-is q.channel c e })
     by false e (inl rest) = inl (none e rest)
     by false e (inr found) = inr (record {

@@ -2,13 +2,10 @@
 use Rattle.std.specs.Prelude.{◌≡◌, ◌≢◌, ◌≤◌, Bool, ◌&&◌, List, []}
 use Rattle.std.specs.Ordering.{nat_cmp, eq_by_cmp}
 use Rattle.std.specs.Cmp.Lexicographic.{slice_cmp}
-use Rattle.core_language.specs.Names.{Name}
+use Rattle.core_language.specs.Names.{Name, same_name}
 use Rattle.good_configurations.specs.Ends.{Concrete}
 use Rattle.graphs.specs.Graph.{count, Node, same_node, edges, degree}
 use Rattle.good_configurations.specs.Values.{Use}
-
-abbrev pub same_name : Name → Name → Bool
-same_name a b = eq_by_cmp (slice_cmp nat_cmp) a b
 
 -- the uses of all tasks and channels, each with its holder
 abbrev pub Uses : Type 0

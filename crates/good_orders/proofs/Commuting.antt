@@ -2,7 +2,7 @@
 use Rattle.std.proofs.Common.{◌≡◌, ◌≢◌, ℕ, ◌+◌, ◌≤◌, Bool, true, false, cond, not, ◌&&◌, List, [], ◌∷◌, ◌++◌, Option, Some, None, refl, ap, sym, subst, ◌∙◌, ◌⊎◌, inl, inr, arith}
 use Rattle.std.specs.FinMap.{get}
 use Rattle.std.proofs.lemmas.Bool.{and_parts}
-use Rattle.core_language.specs.Names.{Name, child}
+use Rattle.core_language.specs.Names.{Name, child, same_name}
 use Rattle.core_language.specs.Programs.{Program}
 use Rattle.core_language.specs.Values.{Value}
 use Rattle.core_language.specs.Computing.{Limits, Halt, unbounded, machine}
@@ -19,7 +19,7 @@ use Rattle.moved_uses.proofs.Moving.{task_apart}
 use Rattle.outline_language.specs.Paths.{Sends, Receives}
 use Rattle.good_configurations.specs.Ends.{Concrete, opposite}
 use Rattle.good_configurations.specs.Values.{Use}
-use Rattle.good_configurations.specs.Uses.{Uses, same_name, AreSame, Holds, EndsAt}
+use Rattle.good_configurations.specs.Uses.{Uses, AreSame, Holds, EndsAt}
 use Rattle.good_configurations.specs.Messages.{Does}
 use Rattle.good_configurations.specs.Acts.{Typing, Fits}
 use Rattle.good_configurations.specs.Good.{TaskGood, ChannelGood, Good}

@@ -3,8 +3,7 @@ use Rattle.std.proofs.Common.{◌≡◌, ◌≢◌, Bool, true, false, cond, Lis
 use Rattle.std.specs.Cmp.Lexicographic.{nat_list_cmp_total}
 use Rattle.std.specs.FinMap.{get, insert, remove, get-insert, get-remove, same_map}
 use Rattle.std.proofs.lemmas.Map.Lookups.{exact_bytes}
-use Rattle.core_language.specs.Names.{Name, NameMap}
-use Rattle.good_configurations.specs.Uses.{same_name}
+use Rattle.core_language.specs.Names.{Name, NameMap, same_name}
 use Rattle.moved_uses.proofs.Bags.{name-is, differ_name}
 use Rattle.good_orders.specs.Changes.{write, write_all}
 

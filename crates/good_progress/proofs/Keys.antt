@@ -10,8 +10,7 @@ use Rattle.std.specs.FinMap.{get, entries, entries_sorted, keys, contains_key-ke
 use Rattle.std.specs.FinMap.Entries.{is_sorted, below_all}
 use Rattle.graphs.specs.Graph.{count}
 use Rattle.graphs.proofs.Live.{Distinct, has}
-use Rattle.core_language.specs.Names.{Name, NameMap}
-use Rattle.good_configurations.specs.Uses.{same_name}
+use Rattle.core_language.specs.Names.{Name, NameMap, same_name}
 
 both_T : (a b : Bool) → T (a && b) → T a × T b
 both_T true true h = (tt, tt)

@@ -2,7 +2,7 @@
 use Rattle.std.proofs.Common.{◌≡◌, ◌≢◌, ℕ, suc, zero, ◌+◌, ◌≤◌, Bool, true, false, cond, not, ◌&&◌, ◌||◌, List, [], ◌∷◌, length, filter, Option, Some, None, is_some, refl, ap, sym, subst, ◌∙◌, ◌⊎◌, inl, inr, arith}
 use Rattle.std.specs.FinMap.{get, keys}
 use Rattle.std.proofs.lemmas.Bool.{not-true, and_parts, false_from_ne_true}
-use Rattle.core_language.specs.Names.{Name}
+use Rattle.core_language.specs.Names.{Name, same_name}
 use Rattle.core_language.specs.Programs.{Program}
 use Rattle.core_language.specs.Values.{Value}
 use Rattle.core_language.specs.Computing.{unbounded}
@@ -19,7 +19,7 @@ use Rattle.moved_uses.proofs.Bags.{name-is, name-self, same_holder, holder-is, h
 use Rattle.outline_language.specs.Paths.{Sends, Receives}
 use Rattle.good_configurations.specs.Ends.{Concrete, opposite}
 use Rattle.good_configurations.specs.Values.{Use}
-use Rattle.good_configurations.specs.Uses.{Uses, same_name, AreSame, Holds, EndsAt}
+use Rattle.good_configurations.specs.Uses.{Uses, AreSame, Holds, EndsAt}
 use Rattle.good_configurations.specs.Messages.{Does}
 use Rattle.good_configurations.specs.Acts.{Typing, Fits}
 use Rattle.good_configurations.specs.Good.{TaskGood, ChannelGood, Good}

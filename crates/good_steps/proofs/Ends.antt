@@ -1,7 +1,7 @@
 -- Steps that send and receive keep what is good.
 use Rattle.std.proofs.Common.{◌≡◌, ◌≢◌, ℕ, ◌+◌, ◌≤◌, Bool, cond, ◌&&◌, List, [], ◌∷◌, ◌++◌, Option, Some, None, refl, ap, sym, ◌∙◌, ◌⊎◌, inl, inr, arith, subst}
 use Rattle.std.specs.FinMap.{get, insert, remove}
-use Rattle.core_language.specs.Names.{Name, child}
+use Rattle.core_language.specs.Names.{Name, child, same_name}
 use Rattle.core_language.specs.Resources.{Proto}
 use Rattle.core_language.specs.Values.{Value}
 use Rattle.core_language.specs.Configurations.{Config, Place, Task}
@@ -15,7 +15,7 @@ use Rattle.moved_uses.proofs.Moving as moved
 use Rattle.outline_language.specs.Paths.{Sends, Receives}
 use Rattle.good_configurations.specs.Ends.{Concrete, opposite}
 use Rattle.good_configurations.specs.Values.{Use}
-use Rattle.good_configurations.specs.Uses.{Uses, same_name, AreSame, Holds, EndsAt}
+use Rattle.good_configurations.specs.Uses.{Uses, AreSame, Holds, EndsAt}
 use Rattle.good_configurations.specs.Messages.{Does, Carries}
 use Rattle.good_configurations.specs.Acts.{Typing, Stands}
 use Rattle.good_configurations.specs.Good.{TaskGood, ChannelGood, Good}

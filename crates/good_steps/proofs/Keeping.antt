@@ -3,7 +3,7 @@ use Rattle.std.proofs.Common.{◌≡◌, ◌≢◌, ℕ, ◌≤◌, Bool, true, 
 use Rattle.std.specs.FinMap.{FinMap, get, insert, remove, get-insert, get-remove}
 use Rattle.std.specs.Ordering.{nat_cmp}
 use Rattle.std.specs.Cmp.Lexicographic.{slice_cmp, nat_list_cmp_total}
-use Rattle.core_language.specs.Names.{Name, child}
+use Rattle.core_language.specs.Names.{Name, child, same_name}
 use Rattle.core_language.specs.Resources.{Proto}
 use Rattle.core_language.specs.Values.{Value}
 use Rattle.core_language.specs.Configurations.{Config, Place, Task}
@@ -12,7 +12,7 @@ use Rattle.graphs.specs.Graph.{task, channel}
 use Rattle.moved_uses.proofs.Bags.{name-is, name-self}
 use Rattle.good_configurations.specs.Ends.{Concrete, opposite}
 use Rattle.good_configurations.specs.Values.{Use}
-use Rattle.good_configurations.specs.Uses.{Uses, same_name, Holds, EndsAt}
+use Rattle.good_configurations.specs.Uses.{Uses, Holds, EndsAt}
 use Rattle.good_configurations.specs.Acts.{Typing, Stands}
 use Rattle.good_configurations.specs.Good.{TaskGood, ChannelGood, Good, forks_at}
 

@@ -3,10 +3,10 @@ use Rattle.std.proofs.Common.{◌≡◌, ℕ, ◌+◌, ◌≤◌, Bool, true, fa
 use Rattle.std.specs.Ordering.{int_eq}
 use Rattle.std.proofs.lemmas.Bool.Decides.{Decides-int_eq}
 use Rattle.std.proofs.lemmas.Bool.{and_parts}
+use Rattle.core_language.specs.Names.{same_name}
 use Rattle.graphs.specs.Graph.{count}
 use Rattle.moved_uses.proofs.Bags.{name-is, name-self}
 use Rattle.good_configurations.specs.Ends.{Concrete}
-use Rattle.good_configurations.specs.Uses.{same_name}
 
 abbrev pub same_ints : List ℤ → List ℤ → Bool
 same_ints [] [] = true

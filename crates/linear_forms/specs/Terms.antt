@@ -1,5 +1,5 @@
 -- Terms as linear rows over the integer variables of a context.
-use Rattle.std.specs.Prelude.{◌≡◌, ℕ, zero, suc, ℤ, pos, neg_ℤ, ◌+ℤ◌, ◌*ℤ◌, if◌then◌else◌, List, [], ◌∷◌, map, length, Option, Some, None}
+use Rattle.std.specs.Prelude.{◌≡◌, ℕ, zero, suc, ℤ, pos, neg_ℤ, ◌+ℤ◌, ◌*ℤ◌, false, not, if◌then◌else◌, List, [], ◌∷◌, ◌++◌, map, length, Option, Some, None}
 use Rattle.std.specs.List.{range_with_len}
 use Rattle.core_language.specs.Names.{Ident, same}
 use Rattle.core_language.specs.Terms.{Part, Term}
@@ -29,6 +29,23 @@ counted unit at (Some x) = at x
 abbrev pub sum_of : ℤ → (Ident → ℤ) → Term → ℤ
 sum_of unit at [] = pos 0
 sum_of unit at (p ∷ ps) = (times_of p *ℤ counted unit at p.name) +ℤ sum_of unit at ps
+
+-- a part taken away in place of added
+abbrev pub negated : Part → Part
+negated part = record { negative = not part.negative; factor = part.factor; name = part.name }
+
+-- the first term less the second
+abbrev pub less : Term → Term → Term
+less t u = t ++ map negated u
+
+abbrev pub one : Part
+one = record { negative = false; factor = pos 1; name = None }
+
+-- each name with the term at its place
+abbrev pub put_of : List Ident → List Term → List IntVar
+put_of [] ts = []
+put_of (x ∷ xs) [] = []
+put_of (x ∷ xs) (t ∷ ts) = record { name = x; term = t } ∷ put_of xs ts
 
 -- a name: the term of a program variable, else an integer variable
 abbrev pub named : List IntVar → ℤ → (Ident → ℤ) → Ident → ℤ

@@ -3,7 +3,7 @@ use Rattle.std.proofs.Common.{◌≡◌, ℕ, suc, ◌≤◌, ◌<◌, Bool, tru
 use Rattle.std.specs.Ordering.{nat_cmp}
 use Rattle.std.specs.Cmp.Lexicographic.{slice_cmp, nat_list_cmp_total}
 use Rattle.std.specs.FinMap.{get, insert, get-insert}
-use Rattle.core_language.specs.Names.{Name, NameMap}
+use Rattle.core_language.specs.Names.{Name, NameMap, same_name}
 use Rattle.core_language.specs.Values.{Value}
 use Rattle.core_language.specs.Programs.{Program}
 use Rattle.core_language.specs.Computing.{machine}
@@ -12,7 +12,6 @@ use Rattle.core_language.specs.Acts.{Act, act_of}
 use Rattle.core_language.specs.Acts as act
 use Rattle.core_language.specs.Steps.{effect, sent, received, step_at, machine_step, after_step}
 use Rattle.machine_rounds.specs.Sets.{has}
-use Rattle.machine_rounds.specs.Local.{same}
 use Rattle.machine_rounds.specs.Showing.{ForksUpTo, ForksWithin}
 use Rattle.machine_rounds.proofs.Rounded.{same-self, same-is}
 
@@ -26,19 +25,19 @@ early false b e = cc
 
 module _ (n : ℕ) (p : Name) (rest : List Name) (off : has (slice_cmp nat_cmp) rest p ≡ false) where
   fewer : (tasks : NameMap Task) → ForksWithin n tasks (p ∷ rest) → ForksWithin n tasks rest
-  fewer tasks w q t got = ((w q t got).0, λ h. (w q t got).1 (late (same q p) (has (slice_cmp nat_cmp) rest q) h))
+  fewer tasks w q t got = ((w q t got).0, λ h. (w q t got).1 (late (same_name q p) (has (slice_cmp nat_cmp) rest q) h))
 
   put_stepped : (tasks : NameMap Task) (t : Task) → t.forks ≤ suc n → ForksWithin n tasks (p ∷ rest) → ForksWithin n (insert tasks p t) rest
-  put_stepped tasks t less w q u got = by (same q p) refl (sym (get-insert nat_list_cmp_total tasks p t q) ∙ got)
+  put_stepped tasks t less w q u got = by (same_name q p) refl (sym (get-insert nat_list_cmp_total tasks p t q) ∙ got)
     where
-      by : (b : Bool) → same q p ≡ b → cond b (Some t) (get tasks q) ≡ Some u → (u.forks ≤ suc n) × (has (slice_cmp nat_cmp) rest q ≡ true → u.forks ≤ n)
+      by : (b : Bool) → same_name q p ≡ b → cond b (Some t) (get tasks q) ≡ Some u → (u.forks ≤ suc n) × (has (slice_cmp nat_cmp) rest q ≡ true → u.forks ≤ n)
       by true e found =
           let is : t ≡ u = cc in
           (subst (λ (v : Task). v.forks ≤ suc n) is less, λ h. let both = sym h ∙ ap (has (slice_cmp nat_cmp) rest) (same-is q p e) ∙ off in let bad : ⊥ = cc in absurd bad)
       by false e found = fewer tasks w q u found
 
   put_made : (tasks : NameMap Task) (c : Name) (t : Task) → t.forks ≤ n → ForksWithin n tasks rest → ForksWithin n (insert tasks c t) rest
-  put_made tasks c t less w q u got = by (same q c) (sym (get-insert nat_list_cmp_total tasks c t q) ∙ got)
+  put_made tasks c t less w q u got = by (same_name q c) (sym (get-insert nat_list_cmp_total tasks c t q) ∙ got)
     where
       by : (b : Bool) → cond b (Some t) (get tasks q) ≡ Some u → (u.forks ≤ suc n) × (has (slice_cmp nat_cmp) rest q ≡ true → u.forks ≤ n)
       by true found =
@@ -80,4 +79,4 @@ module _ (n : ℕ) (p : Name) (rest : List Name) (off : has (slice_cmp nat_cmp) 
     where
       by : (o : Option Task) → get C.tasks p ≡ o → ForksWithin n (after_step C (step_at machine program C p o)).tasks rest
       by None e = fewer C.tasks w
-      by (Some t) e = within_effect C t.forks ((w p t e).1 (early (same p p) (has (slice_cmp nat_cmp) rest p) (same-self p))) w (act_of machine program p t.forks t.place)
+      by (Some t) e = within_effect C t.forks ((w p t e).1 (early (same_name p p) (has (slice_cmp nat_cmp) rest p) (same-self p))) w (act_of machine program p t.forks t.place)

@@ -2,22 +2,22 @@
 use Rattle.std.proofs.Common.{◌≡◌, ℕ, Bool, true, false, cond, ◌||◌, Option, Some, None, refl, ap, sym, ◌∙◌}
 use Rattle.std.specs.FinMap.{get, insert, remove, get-insert, get-remove}
 use Rattle.std.specs.Cmp.Lexicographic.{nat_list_cmp_total}
-use Rattle.core_language.specs.Names.{Name, NameMap}
+use Rattle.core_language.specs.Names.{Name, NameMap, same_name}
 use Rattle.core_language.specs.Values.{Value}
 use Rattle.core_language.specs.Programs.{Program}
 use Rattle.core_language.specs.Computing.{machine}
 use Rattle.core_language.specs.Configurations.{Config, Place, Task}
-use Rattle.core_language.specs.Acts.{Act}
+use Rattle.core_language.specs.Acts.{Act, channel_in}
 use Rattle.core_language.specs.Acts as act
 use Rattle.core_language.specs.Steps.{Step, Event, Moves, Waits, IsEnded, IsAbsent, IsHalted, IsStuck, effect, sent, received, step_at, machine_step, after_step}
 use Rattle.core_language.specs.Rounds.{Run, is_move, turn}
 use Rattle.machine_rounds.specs.Ready.{IsLocal}
-use Rattle.machine_rounds.specs.Local.{same, act_at, act_in, channel_in, alters, uses, moves_in, looks_at, changes, touches}
+use Rattle.machine_rounds.specs.Local.{act_at, act_in, alters, uses, moves_in, looks_at, changes, touches}
 
-put_elsewhere : {X : Type 0} (m : NameMap X) (k : Name) (v : X) (q : Name) → same q k ≡ false → get (insert m k v) q ≡ get m q
+put_elsewhere : {X : Type 0} (m : NameMap X) (k : Name) (v : X) (q : Name) → same_name q k ≡ false → get (insert m k v) q ≡ get m q
 put_elsewhere m k v q e = get-insert nat_list_cmp_total m k v q ∙ ap (λ b. cond b (Some v) (get m q)) e
 
-drop_elsewhere : {X : Type 0} (m : NameMap X) (k q : Name) → same q k ≡ false → get (remove m k) q ≡ get m q
+drop_elsewhere : {X : Type 0} (m : NameMap X) (k q : Name) → same_name q k ≡ false → get (remove m k) q ≡ get m q
 drop_elsewhere m k q e = get-remove nat_list_cmp_total m k q ∙ ap (λ b. cond b None (get m q)) e
 
 left_false : (a b : Bool) → (a || b) ≡ false → a ≡ false
@@ -53,7 +53,7 @@ able C D p k (act.IsStuck why) h = refl
 other_task : (C : Config) (p q : Name) (k : ℕ) (a : Act) → alters p a q ≡ false → get (after_step C (effect C p k a)).tasks q ≡ get C.tasks q
 other_task C p q k (act.Silent place) e = put_elsewhere C.tasks p _ q e
 other_task C p q k (act.Print z place) e = put_elsewhere C.tasks p _ q e
-other_task C p q k (act.Fork c parent its) e = put_elsewhere (insert C.tasks p _) c _ q (left_false (same q c) (same q p) e) ∙ put_elsewhere C.tasks p _ q (right_false (same q c) (same q p) e)
+other_task C p q k (act.Fork c parent its) e = put_elsewhere (insert C.tasks p _) c _ q (left_false (same_name q c) (same_name q p) e) ∙ put_elsewhere C.tasks p _ q (right_false (same_name q c) (same_name q p) e)
 other_task C p q k (act.Send c v place) e = go (get C.channels c)
   where
     go : (o : Option (Option Value)) → get (after_step C (sent C p k c v place o)).tasks q ≡ get C.tasks q

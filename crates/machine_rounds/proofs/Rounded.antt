@@ -8,7 +8,7 @@ use Rattle.std.specs.List.{AllByRecursion}
 use Rattle.std.specs.List.Sorted.{IsStrictlySortedBy}
 use Rattle.std.proofs.lemmas.Map.Lookups.{exact_bytes}
 use Rattle.std.proofs.lemmas.Map.Views.{any-filter_same}
-use Rattle.core_language.specs.Names.{Name, NameMap}
+use Rattle.core_language.specs.Names.{Name, NameMap, same_name}
 use Rattle.core_language.specs.Programs.{Program, main_function}
 use Rattle.core_language.specs.Computing.{machine}
 use Rattle.core_language.specs.Configurations.{Config, Task, start, started}
@@ -16,20 +16,20 @@ use Rattle.core_language.specs.Steps.{step_at}
 use Rattle.core_language.specs.Rounds.{Run, is_move, moves, movers, turn, turns, round, run_of}
 use Rattle.machine_rounds.specs.Ready.{IsParked}
 use Rattle.machine_rounds.specs.Ready as generic
-use Rattle.machine_rounds.specs.Local.{act_at, channel_in, moves_in, looks_at}
+use Rattle.machine_rounds.specs.Local.{act_at, moves_in, looks_at}
 use Rattle.machine_rounds.specs.Local as local
 use Rattle.machine_rounds.specs.Sets.{has}
 use Rattle.machine_rounds.proofs.Local.{local_turns}
 use Rattle.machine_rounds.proofs.Round.{round_ready}
 use Rattle.machine_rounds.proofs.Sorted.{equal_from}
-use Rattle.machine_rounds.specs.Local.{same}
 use Rattle.machine_rounds.specs.Showing.{ForksWithin, ForksUpTo}
 use Rattle.std.proofs.lemmas.Cmp.{eq_by_cmp_equiv}
+use Rattle.core_language.specs.Acts.{channel_in}
 
-pub same-is : (a b : Name) → same a b ≡ true → a ≡ b
+pub same-is : (a b : Name) → same_name a b ≡ true → a ≡ b
 same-is a b e = exact_bytes a b (equal_from (slice_cmp nat_cmp a b) e)
 
-pub same-self : (a : Name) → same a a ≡ true
+pub same-self : (a : Name) → same_name a a ≡ true
 same-self = (eq_by_cmp_equiv nat_list_cmp_total).refl
 
 -- ---- ascending names
@@ -58,13 +58,13 @@ keys_ascend (e ∷ es) h = (below e.0 es (first (below_all (slice_cmp nat_cmp) e
 
 not_below : (p : Name) (rest : List Name) → AllByRecursion (λ y. slice_cmp nat_cmp p y ≡ Less) rest → has (slice_cmp nat_cmp) rest p ≡ false
 not_below p [] h = refl
-not_below p (q ∷ rest) h = both (same p q) (has (slice_cmp nat_cmp) rest p) (off (slice_cmp nat_cmp p q) refl) (not_below p rest h.1)
+not_below p (q ∷ rest) h = both (same_name p q) (has (slice_cmp nat_cmp) rest p) (off (slice_cmp nat_cmp p q) refl) (not_below p rest h.1)
   where
     both : (a b : Bool) → a ≡ false → b ≡ false → (a || b) ≡ false
     both true b e f = e
     both false b e f = f
 
-    off : (o : Ordering) → slice_cmp nat_cmp p q ≡ o → same p q ≡ false
+    off : (o : Ordering) → slice_cmp nat_cmp p q ≡ o → same_name p q ≡ false
     off Less e = ap is_equal e
       where
         is_equal : Ordering → Bool
@@ -124,7 +124,7 @@ still_from program (suc d) t (suc u) e h =
 abbrev nothing : NameMap Task
 nothing = empty
 
-pub start_parked : (program : Program) (run : Run) (live : Name → Bool) (waits : Name → Name → Bool) → run.config ≡ start program → ((q : Name) → live q ≡ false → same q [] ≡ false)
+pub start_parked : (program : Program) (run : Run) (live : Name → Bool) (waits : Name → Name → Bool) → run.config ≡ start program → ((q : Name) → live q ≡ false → same_name q [] ≡ false)
     → IsParked (moves_in program) (looks_at program) run live waits
 start_parked program run live waits is only q dead = (
   ap (λ C. is_move (step_at machine program C q (get C.tasks q))) is ∙ ap (λ o. is_move (step_at machine program (start program) q o)) none,
@@ -142,7 +142,7 @@ start_forks program C is = subst (λ (D : Config). ForksUpTo 0 D.tasks) (sym is)
     first_task = record { place = started (main_function program); forks = 0 }
 
     at_start : ForksUpTo 0 (start program).tasks
-    at_start q t got = by (same q []) (sym (get-insert nat_list_cmp_total nothing [] first_task q) ∙ got)
+    at_start q t got = by (same_name q []) (sym (get-insert nat_list_cmp_total nothing [] first_task q) ∙ got)
       where
         by : (b : Bool) → cond b (Some first_task) (get nothing q) ≡ Some t → t.forks ≤ 0
         by true e = let is_first : first_task ≡ t = cc in subst (λ (v : Task). v.forks ≤ 0) is_first (omega arith)

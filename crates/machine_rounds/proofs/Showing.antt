@@ -4,7 +4,7 @@ use Rattle.std.specs.Ordering.{nat_cmp}
 use Rattle.std.specs.Cmp.Lexicographic.{slice_cmp, nat_list_cmp_total}
 use Rattle.std.specs.FinMap.{get, keys}
 use Rattle.std.proofs.lemmas.Map.Lookups.{exact_bytes}
-use Rattle.core_language.specs.Names.{Name}
+use Rattle.core_language.specs.Names.{Name, same_name}
 use Rattle.core_language.specs.Values.{Value}
 use Rattle.core_language.specs.Programs.{Program}
 use Rattle.core_language.specs.Computing.{machine}
@@ -14,7 +14,7 @@ use Rattle.core_language.specs.Acts as act
 use Rattle.core_language.specs.Steps.{Event, Silent, Fork, Send, Recv, Print, End, Step, Moves, Waits, IsEnded, IsAbsent, IsHalted, IsStuck, effect, sent, received, step_at, machine_step, after_step}
 use Rattle.core_language.specs.Rounds.{Run, Entry, is_move, turn, event_entries, step_entries}
 use Rattle.machine_rounds.specs.Ready.{IsParked}
-use Rattle.machine_rounds.specs.Local.{same, act_at, act_in, alters, uses, moves_in, looks_at}
+use Rattle.machine_rounds.specs.Local.{act_at, act_in, alters, uses, moves_in, looks_at}
 use Rattle.machine_rounds.specs.Local as local
 use Rattle.machine_rounds.specs.Sets.{has}
 use Rattle.machine_rounds.proofs.Local.{local_turns}
@@ -56,7 +56,7 @@ late true b e = refl
 late false b e = e
 
 alters_itself : (p : Name) (e : Event) → alters_by p e p ≡ true
-alters_itself p (Fork c) = late (same p c) (same p p) (same-self p)
+alters_itself p (Fork c) = late (same_name p c) (same_name p p) (same-self p)
 alters_itself p Silent = same-self p
 alters_itself p (Send c) = same-self p
 alters_itself p (Recv c) = same-self p
@@ -103,10 +103,10 @@ module _ (program : Program) (time : ℕ) where
       spreads.more (λ q h. spreads.altered q (sym (altered q) ∙ h)) (altered p ∙ alters_itself p e) (λ c q t w. spreads.woken c q (sym (used c) ∙ t) w)
       (λ c q t w. spreads.kept c q (sym (used c) ∙ t) w) parked)
 
-  pub parked_still : (run next : Run) (p : Name) (rest : List Name) (ready later : Name → Bool) (waits waits_later : Name → Name → Bool) → next ≡ run → ((q : Name) → later q ≡ cond (same p q) true (ready q))
+  pub parked_still : (run next : Run) (p : Name) (rest : List Name) (ready later : Name → Bool) (waits waits_later : Name → Name → Bool) → next ≡ run → ((q : Name) → later q ≡ cond (same_name p q) true (ready q))
       → ((c q : Name) → waits c q ≡ true → waits_later c q ≡ true) → Parked run (p ∷ rest) ready waits → Parked next rest later waits_later
   parked_still run next p rest ready later waits waits_later same_run put waiting parked = subst (λ r. Parked r rest later waits_later) (sym same_run)
-      (λ q dead. let (still, waits_now) = parked q (by (same p q) (same q p) ((eq_by_cmp_equiv nat_list_cmp_total).symm p q) (has (slice_cmp nat_cmp) rest q) (ready q) (ap (λ b. has (slice_cmp nat_cmp) rest q || b) (sym (put q)) ∙ dead)) in
+      (λ q dead. let (still, waits_now) = parked q (by (same_name p q) (same_name q p) ((eq_by_cmp_equiv nat_list_cmp_total).symm p q) (has (slice_cmp nat_cmp) rest q) (ready q) (ap (λ b. has (slice_cmp nat_cmp) rest q || b) (sym (put q)) ∙ dead)) in
       (still, λ c e. waiting c q (waits_now c e)))
     where
       by : (a b : Bool) → a ≡ b → (h r : Bool) → (h || cond a true r) ≡ false → ((b || h) || r) ≡ false

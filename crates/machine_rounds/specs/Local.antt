@@ -1,18 +1,13 @@
 -- What a turn of a task alters: the tasks, and the channels.
 use Rattle.std.specs.Prelude.{Bool, false, ◌||◌, Option, Some, None}
-use Rattle.std.specs.Ordering.{nat_cmp, eq_by_cmp}
-use Rattle.std.specs.Cmp.Lexicographic.{slice_cmp}
 use Rattle.std.specs.FinMap.{get}
-use Rattle.core_language.specs.Names.{Name}
+use Rattle.core_language.specs.Names.{Name, same_name}
 use Rattle.core_language.specs.Programs.{Program}
 use Rattle.core_language.specs.Computing.{machine}
 use Rattle.core_language.specs.Configurations.{Config, Task}
-use Rattle.core_language.specs.Acts.{Act, act_of}
+use Rattle.core_language.specs.Acts.{Act, act_of, channel_in}
 use Rattle.core_language.specs.Acts as act
 use Rattle.core_language.specs.Rounds.{Run, moves}
-
-abbrev pub same : Name → Name → Bool
-same = eq_by_cmp (slice_cmp nat_cmp)
 
 -- what the task does next; nothing where no such task was made
 abbrev pub act_at : Program → Name → Option Task → Act
@@ -22,22 +17,16 @@ act_at program p (Some t) = act_of machine program p t.forks t.place
 abbrev pub act_in : Program → Config → Name → Act
 act_in program C p = act_at program p (get C.tasks p)
 
--- the channel at which the act looks
-abbrev pub channel_in : Act → Option Name
-channel_in (act.Send c v place) = Some c
-channel_in (act.Recv c place) = Some c
-channel_in other = None
-
 -- an act of p alters the task q
 abbrev pub alters : Name → Act → Name → Bool
-alters p (act.Fork c parent its) q = same q c || same q p
-alters p other q = same q p
+alters p (act.Fork c parent its) q = same_name q c || same_name q p
+alters p other q = same_name q p
 
 -- an act alters the channel
 abbrev pub uses : Act → Name → Bool
-uses (act.Fork d parent its) c = same c d
-uses (act.Send d v place) c = same c d
-uses (act.Recv d place) c = same c d
+uses (act.Fork d parent its) c = same_name c d
+uses (act.Send d v place) c = same_name c d
+uses (act.Recv d place) c = same_name c d
 uses other c = false
 
 module _ (program : Program) where

@@ -3,22 +3,21 @@ use Rattle.std.specs.Prelude.{◌≡◌, ℕ, suc, ◌≤◌, Bool, true, false,
 use Rattle.std.specs.Ordering.{nat_cmp}
 use Rattle.std.specs.Cmp.Lexicographic.{slice_cmp}
 use Rattle.std.specs.FinMap.{get}
-use Rattle.core_language.specs.Names.{Name, NameMap}
+use Rattle.core_language.specs.Names.{Name, NameMap, same_name}
 use Rattle.core_language.specs.Configurations.{Task}
 use Rattle.core_language.specs.Steps.{Event, Fork, Send, Recv}
-use Rattle.machine_rounds.specs.Local.{same}
 use Rattle.machine_rounds.specs.Sets.{has}
 
 -- a step of p that shows the event alters the task q
 abbrev pub alters_by : Name → Event → Name → Bool
-alters_by p (Fork c) q = same q c || same q p
-alters_by p other q = same q p
+alters_by p (Fork c) q = same_name q c || same_name q p
+alters_by p other q = same_name q p
 
 -- a step that shows the event alters the channel
 abbrev pub uses_by : Event → Name → Bool
-uses_by (Fork d) c = same c d
-uses_by (Send d) c = same c d
-uses_by (Recv d) c = same c d
+uses_by (Fork d) c = same_name c d
+uses_by (Send d) c = same_name c d
+uses_by (Recv d) c = same_name c d
 uses_by other c = false
 
 -- after the step of p the tasks that it altered are ready, and those that waited at its channel; the others wait on

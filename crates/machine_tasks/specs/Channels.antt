@@ -10,12 +10,6 @@ use Rattle.core_programs.specs.declared.nodes.Node.{Node}
 use Rattle.core_programs.specs.declared.nodes.Node.TheVariants as node
 use Rattle.machine_tasks.specs.Kinds.{Kind, Send, Recv}
 
--- the channel of a send or a receive
-abbrev pub channel_in : Act → Option Name
-channel_in (act.Send channel v place) = Some channel
-channel_in (act.Recv channel place) = Some channel
-channel_in other = None
-
 abbrev pub has_channel : Kind → Bool
 has_channel Send = true
 has_channel Recv = true

@@ -5,7 +5,7 @@ ghost use Rattle.core_language.specs.Programs.{Body, Program as CoreProgram, arm
 ghost use Rattle.core_language.specs.Computing.{machine, Depth, Env};
 ghost use Rattle.core_language.specs.Values as core;
 ghost use Rattle.core_language.specs.Configurations.{Caller, Place};
-ghost use Rattle.core_language.specs.Acts.{act_at as act_at_body, on_pair, on_sum, chosen, Silent as Silently};
+ghost use Rattle.core_language.specs.Acts.{act_at as act_at_body, on_pair, on_sum, chosen, Silent as Silently, channel_in};
 ghost use Rattle.core_language.specs.Endings.{is_nil};
 ghost use Rattle.core_programs.specs.Bodies.{arms_opened, opened};
 ghost use Rattle.core_programs.specs.Formed.{HasDivisor};
@@ -16,7 +16,7 @@ ghost use Rattle.machine_tasks.specs.Fits.{FramesFit};
 ghost use Rattle.machine_values.specs.Cells.{EndTest};
 ghost use Rattle.machine_values.specs.Ends.{ValuePasses};
 ghost use Rattle.machine_tasks.specs.Ends.{TaskPasses};
-ghost use Rattle.machine_tasks.specs.Channels.{has_channel as has_channel_of, channel_in, channel_named, end_name};
+ghost use Rattle.machine_tasks.specs.Channels.{has_channel as has_channel_of, channel_named, end_name};
 ghost use Rattle.machine_tasks.specs.Kinds.{Silent, End, Fork, IsHalted, kind_as, kind_of, kind_after, kind_at_end, kind_chosen, print_after};
 
 use crate::tasks::Task;

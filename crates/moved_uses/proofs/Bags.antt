@@ -9,10 +9,9 @@ use Rattle.std.proofs.lemmas.Map.Lookups.{exact_bytes}
 use Rattle.graphs.specs.Graph.{count, Node, same_node}
 use Rattle.graphs.proofs.Counts.{count-map, count-filter, count_cases, count_agree}
 use Rattle.graphs.proofs.Live.{node-is, node-self}
-use Rattle.core_language.specs.Names.{Name}
+use Rattle.core_language.specs.Names.{Name, same_name}
 use Rattle.good_configurations.specs.Ends.{Concrete}
 use Rattle.good_configurations.specs.Values.{Use}
-use Rattle.good_configurations.specs.Uses.{same_name}
 use Rattle.good_configurations.specs.Uses.{Uses, Holds}
 
 pub name-is : (a b : Name) → same_name a b ≡ true → a ≡ b

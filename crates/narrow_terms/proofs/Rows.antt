@@ -4,17 +4,18 @@ use Rattle.std.proofs.lemmas.Int.{ints}
 use Rattle.std.proofs.lemmas.List.Folds.{list_all-append}
 use Rattle.std.proofs.Math.IntN as Z
 use Rattle.std.specs.List.{list_all}
+use Rattle.linear_forms.specs.NormalTerms.{one_named, count_of, bare_of}
 use Rattle.core_language.specs.Names.{Ident, same}
 use Rattle.core_language.specs.Terms.{Part, Term}
 use Rattle.farkas_check.proofs.Products.{neg_times}
-use Rattle.linear_forms.specs.Terms.{times_of, counted, sum_of}
+use Rattle.linear_forms.specs.Terms.{times_of, counted, sum_of, negated, less, one}
 use Rattle.linear_forms.specs.Normal.{fits}
 use Rattle.chan_syntax.specs.declared.linear.Part.{Part as Written}
 use Rattle.chan_syntax.specs.declared.linear.Limit.{Limit}
 use Rattle.chan_syntax.specs.declared.linear.Relation.TheVariants as relation
 use Rattle.chan_syntax.specs.Reading.{part_of, term_of, relation_of, limit_of}
 use Rattle.narrow_terms.specs.declared.narrowness.Sums.{Sums}
-use Rattle.narrow_terms.specs.Numbers.{coefficient_of, constant_of, name_fits, are_narrow, is_narrow, is_narrow_limit, rows_of, negated, less, one}
+use Rattle.narrow_terms.specs.Numbers.{name_fits, are_narrow, is_narrow, is_narrow_limit, rows_of}
 use Rattle.narrow_terms.specs.Sums.{count_in, difference_in, IsSumOf}
 
 sum-append : (u : ℤ) (at : Ident → ℤ) (a b : Term) → sum_of u at (a ++ b) ≡ sum_of u at a +ℤ sum_of u at b
@@ -82,8 +83,8 @@ narrow-negated f (p ∷ ps) = ap (λ b. name_fits f p.name && b) (narrow-negated
 pub narrow_sum : (t : Term) (sums : Sums) → IsSumOf t sums → (are_narrow (count_in sums) t && fits sums.constant) ≡ is_narrow t
 unfolding is_narrow
 narrow_sum t sums is =
-    ap (λ b. b && fits sums.constant) (all-same (count_in sums) (coefficient_of t) is.counts t)
-    ∙ ap (λ z. are_narrow (coefficient_of t) t && fits z) is.constant
+    ap (λ b. b && fits sums.constant) (all-same (count_in sums) (λ x. count_of x t) is.counts t)
+    ∙ ap (λ z. are_narrow (λ x. count_of x t) t && fits z) is.constant
 
 less_narrow : (f g : Ident → ℤ) (a b : Term) → ((x : Ident) → f x ≡ g x) → are_narrow f (less a b) ≡ (are_narrow g a && are_narrow g b)
 less_narrow f g a b same = all-same f g same (less a b) ∙ narrow-append g a (map negated b) ∙ ap (λ c. are_narrow g a && c) (narrow-negated g b)
@@ -93,38 +94,38 @@ pub row : (a b : Term) (left right : Sums) → IsSumOf a left → IsSumOf b righ
     → ((are_narrow (difference_in left right) a && are_narrow (difference_in left right) b) && fits (left.constant -ℤ right.constant)) ≡ is_narrow (less a b)
 unfolding is_narrow difference_in
 row a b left right l r =
-    ap (λ c. c && fits (left.constant -ℤ right.constant)) (sym (less_narrow (coefficient_of (less a b)) (difference_in left right) a b counts))
-    ∙ ap (λ z. are_narrow (coefficient_of (less a b)) (less a b) && fits z) constants
+    ap (λ c. c && fits (left.constant -ℤ right.constant)) (sym (less_narrow (λ x. count_of x (less a b)) (difference_in left right) a b counts))
+    ∙ ap (λ z. are_narrow (λ x. count_of x (less a b)) (less a b) && fits z) constants
   where
-    counts : (x : Ident) → coefficient_of (less a b) x ≡ count_in left x -ℤ count_in right x
-    counts x = rw (l.counts x, r.counts x) (difference (pos 0) (λ y. if same y x then pos 1 else pos 0) a b)
+    counts : (x : Ident) → count_of x (less a b) ≡ count_in left x -ℤ count_in right x
+    counts x = rw (l.counts x, r.counts x) (difference (pos 0) (one_named x) a b)
 
-    constants : left.constant -ℤ right.constant ≡ constant_of (less a b)
+    constants : left.constant -ℤ right.constant ≡ bare_of (less a b)
     constants = rw (l.constant, r.constant) (sym (difference (pos 1) (λ y. pos 0) a b))
 
 and_true : (b : Bool) → (b && true) ≡ b
 and_true true = refl
 and_true false = refl
 
-one_narrow : (f : Ident → ℤ) → are_narrow f one ≡ true
+one_narrow : (f : Ident → ℤ) → are_narrow f (one ∷ []) ≡ true
 unfolding are_narrow
 one_narrow f = refl
 
 pub strict_row : (a b : Term) (left right : Sums) → IsSumOf a left → IsSumOf b right
-    → ((are_narrow (difference_in left right) a && are_narrow (difference_in left right) b) && fits ((left.constant +ℤ pos 1) -ℤ right.constant)) ≡ is_narrow (less a b ++ one)
+    → ((are_narrow (difference_in left right) a && are_narrow (difference_in left right) b) && fits ((left.constant +ℤ pos 1) -ℤ right.constant)) ≡ is_narrow (less a b ++ one ∷ [])
 unfolding is_narrow difference_in
 strict_row a b left right l r =
     ap (λ c. c && fits ((left.constant +ℤ pos 1) -ℤ right.constant)) (sym names)
-    ∙ ap (λ z. are_narrow (coefficient_of (less a b ++ one)) (less a b ++ one) && fits z) constants
+    ∙ ap (λ z. are_narrow (λ x. count_of x (less a b ++ one ∷ [])) (less a b ++ one ∷ []) && fits z) constants
   where
-    counts : (x : Ident) → coefficient_of (less a b ++ one) x ≡ count_in left x -ℤ count_in right x
-    counts x = rw (l.counts x, r.counts x) (omega (arith, ints, sum-append (pos 0) (λ y. if same y x then pos 1 else pos 0) (less a b) one, difference (pos 0) (λ y. if same y x then pos 1 else pos 0) a b))
+    counts : (x : Ident) → count_of x (less a b ++ one ∷ []) ≡ count_in left x -ℤ count_in right x
+    counts x = rw (l.counts x, r.counts x) (omega (arith, ints, sum-append (pos 0) (one_named x) (less a b) (one ∷ []), difference (pos 0) (one_named x) a b))
 
-    names : are_narrow (coefficient_of (less a b ++ one)) (less a b ++ one) ≡ (are_narrow (difference_in left right) a && are_narrow (difference_in left right) b)
-    names = narrow-append (coefficient_of (less a b ++ one)) (less a b) one ∙ ap (λ c. are_narrow (coefficient_of (less a b ++ one)) (less a b) && c) (one_narrow (coefficient_of (less a b ++ one))) ∙ and_true (are_narrow (coefficient_of (less a b ++ one)) (less a b)) ∙ less_narrow (coefficient_of (less a b ++ one)) (difference_in left right) a b counts
+    names : are_narrow (λ x. count_of x (less a b ++ one ∷ [])) (less a b ++ one ∷ []) ≡ (are_narrow (difference_in left right) a && are_narrow (difference_in left right) b)
+    names = narrow-append (λ x. count_of x (less a b ++ one ∷ [])) (less a b) (one ∷ []) ∙ ap (λ c. are_narrow (λ x. count_of x (less a b ++ one ∷ [])) (less a b) && c) (one_narrow (λ x. count_of x (less a b ++ one ∷ []))) ∙ and_true (are_narrow (λ x. count_of x (less a b ++ one ∷ [])) (less a b)) ∙ less_narrow (λ x. count_of x (less a b ++ one ∷ [])) (difference_in left right) a b counts
 
-    constants : (left.constant +ℤ pos 1) -ℤ right.constant ≡ constant_of (less a b ++ one)
-    constants = rw (l.constant, r.constant) (omega (arith, ints, sum-append (pos 1) (λ y. pos 0) (less a b) one, difference (pos 1) (λ y. pos 0) a b))
+    constants : (left.constant +ℤ pos 1) -ℤ right.constant ≡ bare_of (less a b ++ one ∷ [])
+    constants = rw (l.constant, r.constant) (omega (arith, ints, sum-append (pos 1) (λ y. pos 0) (less a b) (one ∷ []), difference (pos 1) (λ y. pos 0) a b))
 
 -- ---- limits by their relations
 
@@ -132,9 +133,9 @@ pub at_most : (l : Limit) → l.relation ≡ relation.AtMost → is_narrow (less
 unfolding is_narrow_limit
 at_most l is = sym (ap (λ r. list_all is_narrow (rows_of (relation_of r) (term_of l.left) (term_of l.right))) is ∙ and_true (is_narrow (less (term_of l.left) (term_of l.right))))
 
-pub below : (l : Limit) → l.relation ≡ relation.Less → is_narrow (less (term_of l.left) (term_of l.right) ++ one) ≡ is_narrow_limit (limit_of l)
+pub below : (l : Limit) → l.relation ≡ relation.Less → is_narrow (less (term_of l.left) (term_of l.right) ++ one ∷ []) ≡ is_narrow_limit (limit_of l)
 unfolding is_narrow_limit
-below l is = sym (ap (λ r. list_all is_narrow (rows_of (relation_of r) (term_of l.left) (term_of l.right))) is ∙ and_true (is_narrow (less (term_of l.left) (term_of l.right) ++ one)))
+below l is = sym (ap (λ r. list_all is_narrow (rows_of (relation_of r) (term_of l.left) (term_of l.right))) is ∙ and_true (is_narrow (less (term_of l.left) (term_of l.right) ++ one ∷ [])))
 
 pub equal : (l : Limit) → l.relation ≡ relation.Same
     → (is_narrow (less (term_of l.left) (term_of l.right)) && is_narrow (less (term_of l.right) (term_of l.left))) ≡ is_narrow_limit (limit_of l)

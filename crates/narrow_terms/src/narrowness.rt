@@ -1,7 +1,7 @@
 //! The sums of terms, name by name, and whether they are narrow.
-ghost use Rattle.std.specs.Prelude.{◌≡◌, ◌+◌, ◌-◌, ◌<◌, ◌≤◌, ◌^◌, ℕ, pos, ◌-ℤ◌, ◌+ℤ◌, ◌&&◌, ◌++◌, unsigned_abs, map, IfOk, OnOk};
+ghost use Rattle.std.specs.Prelude.{◌≡◌, ◌+◌, ◌-◌, ◌<◌, ◌≤◌, ◌^◌, ℕ, pos, ◌-ℤ◌, ◌+ℤ◌, ◌&&◌, [], ◌∷◌, ◌++◌, unsigned_abs, map, IfOk, OnOk};
 ghost use Rattle.core_language.specs.Names.{Ident};
-ghost use Rattle.linear_forms.specs.Terms.{times_of};
+ghost use Rattle.linear_forms.specs.Terms.{less, one, times_of};
 ghost use Rattle.linear_forms.specs.Normal as normal;
 ghost use Rattle.chan_syntax.specs.Reading.{part_of, term_of, limit_of};
 ghost use Rattle.narrow_terms.specs.Numbers as spec;
@@ -175,7 +175,7 @@ fn are_counts_narrow(left: &Sums, right: &Sums, a: &Term, b: &Term) -> bool
 fn is_row_narrow(left: &Sums, right: &Sums, a: &Term, b: &Term) -> bool
     requires left { IsSumOf (term_of a.now) left.now }
     requires right { IsSumOf (term_of b.now) right.now }
-    ensures { result ≡ spec.is_narrow (spec.less (term_of a.now) (term_of b.now)) }
+    ensures { result ≡ spec.is_narrow (less (term_of a.now) (term_of b.now)) }
 {
     are_counts_narrow(left, right, a, b) && constants_fit(left, right)
 }
@@ -185,7 +185,7 @@ fn is_strict_row_narrow(left: &Sums, right: &Sums, a: &Term, b: &Term) -> bool
     requires left { IsSumOf (term_of a.now) left.now }
     requires right { IsSumOf (term_of b.now) right.now }
     requires within { IsWithin (2 ^ 127 - 2 ^ 63) left.now }
-    ensures { result ≡ spec.is_narrow (spec.less (term_of a.now) (term_of b.now) ++ spec.one) }
+    ensures { result ≡ spec.is_narrow (less (term_of a.now) (term_of b.now) ++ one ∷ []) }
 {
     are_counts_narrow(left, right, a, b) && strict_constants_fit(left, right)
 }

@@ -4,7 +4,7 @@ use Rattle.std.specs.Ordering.{nat_cmp, eq_by_cmp}
 use Rattle.std.specs.Cmp.Lexicographic.{slice_cmp}
 use Rattle.std.specs.List.{flat_map}
 use Rattle.std.specs.FinMap.{get, keys, entries, get-entries, find}
-use Rattle.core_language.specs.Names.{Name}
+use Rattle.core_language.specs.Names.{Name, same_name}
 use Rattle.core_language.specs.Programs.{Program}
 use Rattle.core_language.specs.Computing.{machine, unbounded, Halt}
 use Rattle.core_language.specs.Configurations.{Config, Place, Task, start}
@@ -18,7 +18,6 @@ use Rattle.orders.specs.Paths.{Path, Final, own}
 use Rattle.orders.proofs.Paths.{any_run, Rest}
 use Rattle.graphs.proofs.Live.{has}
 use Rattle.moved_uses.proofs.Bags.{name-is, name-self}
-use Rattle.good_configurations.specs.Uses.{same_name}
 use Rattle.good_configurations.specs.Acts.{Typing}
 use Rattle.good_configurations.specs.Good.{Good}
 use Rattle.good_steps.proofs.Keeping.{with_prints}

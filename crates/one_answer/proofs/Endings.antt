@@ -3,7 +3,7 @@ use Rattle.std.proofs.Common.{◌≡◌, ◌≢◌, ℕ, ◌+◌, ◌≤◌, ℤ
 use Rattle.std.specs.Ordering.{nat_cmp, eq_by_cmp}
 use Rattle.std.specs.Cmp.Lexicographic.{slice_cmp}
 use Rattle.std.specs.FinMap.{get, keys, entries, get-entries, find}
-use Rattle.core_language.specs.Names.{Name, Ident}
+use Rattle.core_language.specs.Names.{Name, Ident, same_name}
 use Rattle.core_language.specs.Operands.{Pat}
 use Rattle.core_language.specs.Programs.{Body, Program}
 use Rattle.core_language.specs.Programs as body
@@ -22,7 +22,6 @@ use Rattle.core_language.proofs.Halting.{halts_or_steps}
 use Rattle.graphs.specs.Graph.{count}
 use Rattle.graphs.proofs.Live.{Distinct, has}
 use Rattle.moved_uses.proofs.Bags.{name-is, name-self}
-use Rattle.good_configurations.specs.Uses.{same_name}
 use Rattle.good_configurations.specs.Acts.{Typing}
 use Rattle.good_configurations.specs.Good.{Good}
 use Rattle.good_steps.proofs.Kept.{ActsFit, step_fine}

@@ -2,7 +2,7 @@
 use Rattle.std.proofs.Common.{◌≡◌, ◌≢◌, ℕ, zero, suc, ◌+◌, ◌≤◌, ℤ, Bool, true, false, cond, if◌then◌else◌, not, ◌||◌, List, [], ◌∷◌, ◌++◌, length, length-append, append-nil, append_assoc, filter, map, Option, Some, None, is_some, refl, ap, sym, subst, ◌∙◌, ◌⊎◌, inl, inr, arith}
 use Rattle.std.specs.List.{flat_map}
 use Rattle.std.specs.FinMap.{get, keys}
-use Rattle.core_language.specs.Names.{Name}
+use Rattle.core_language.specs.Names.{Name, same_name}
 use Rattle.core_language.specs.Programs.{Program}
 use Rattle.core_language.specs.Values.{Value}
 use Rattle.core_language.specs.Computing.{machine, unbounded}
@@ -16,7 +16,6 @@ use Rattle.core_language.proofs.Halting.{halts_or_steps}
 use Rattle.orders.specs.Paths.{Path, Final, own}
 use Rattle.graphs.proofs.Live.{has}
 use Rattle.moved_uses.proofs.Bags.{name-is, name-self}
-use Rattle.good_configurations.specs.Uses.{same_name}
 use Rattle.good_orders.specs.Changes.{State, state_of, config_of, moved_to, step_state}
 use Rattle.good_orders.proofs.Changing.{step-changes, none_some}
 use Rattle.good_progress.proofs.Keys.{has-keys}

@@ -1,12 +1,11 @@
 -- Schedules that are followed, and what a task prints.
 use Rattle.std.specs.Prelude.{◌≡◌, ◌⊎◌, ℕ, ◌+◌, ℤ, if◌then◌else◌, List, [], ◌∷◌, filter, map}
-use Rattle.core_language.specs.Names.{Name}
+use Rattle.core_language.specs.Names.{Name, same_name}
 use Rattle.core_language.specs.Programs.{Program}
 use Rattle.core_language.specs.Configurations.{Config}
 use Rattle.core_language.specs.Steps.{Step, Moves, Waits, IsEnded, IsAbsent, IsHalted, IsStuck, step, machine_step, after_step}
 use Rattle.core_language.specs.Rounds.{is_move, Entry, prints_of}
 use Rattle.core_language.specs.Endings.{Ending, Finished, Stuck, OutOfRange, TooDeep, Rounds, Deadlocked, Leaked}
-use Rattle.good_configurations.specs.Uses.{same_name}
 
 abbrev pub Halts : Step → Type 0
 Halts (IsHalted why) = Unit {0}

@@ -1,6 +1,6 @@
 -- What holds of the runs of an outlined program, where its form is sound: each law has that as its premise (`IsFormed`).
 use Rattle.std.specs.Prelude.{◌≡◌, ◌≢◌, ℕ, List, []}
-use Rattle.core_language.specs.Names.{Name}
+use Rattle.core_language.specs.Names.{Name, same_name}
 use Rattle.core_language.specs.Programs.{Program}
 use Rattle.core_language.specs.Configurations.{Config, start}
 use Rattle.core_language.specs.Steps.{Event, Moves, step, after_step}
@@ -9,7 +9,6 @@ use Rattle.core_language.specs.Rounds.{run_of}
 use Rattle.core_language.specs.Endings.{Finished, unended, ending_of}
 use Rattle.graphs.specs.Graph.{IsForest, edges, same_node}
 use Rattle.outline_language.specs.Outlined.{IsOutlined}
-use Rattle.good_configurations.specs.Uses.{same_name}
 use Rattle.good_configurations.specs.Good.{Good}
 use Rattle.outline_values.specs.Formed.{IsFormed}
 use Rattle.standing_contexts.specs.Places.{PlaceAt}

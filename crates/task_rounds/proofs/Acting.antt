@@ -2,7 +2,7 @@
 use Rattle.std.proofs.Common.{◌≡◌, inl, ℕ, ℤ, suc, true, false, [], ◌++◌, Option, Some, None, is_some, refl, sym, ap, subst, ◌∙◌}
 use Rattle.std.specs.FinMap.{get, insert}
 use Rattle.std.proofs.lemmas.Bool.{or_left, or_right}
-use Rattle.core_language.specs.Names.{Name, child}
+use Rattle.core_language.specs.Names.{Name, child, same_name}
 use Rattle.core_language.specs.Values.{Value}
 use Rattle.core_language.specs.Programs.{Program}
 use Rattle.core_language.specs.Computing.{Halt, StuckWhy, machine, NoChannel, FullChannel}
@@ -11,7 +11,7 @@ use Rattle.core_language.specs.Acts.{Act, act_of}
 use Rattle.core_language.specs.Acts as act
 use Rattle.core_language.specs.Steps.{Event, Silent, Fork, Send, Recv, Print, End, IsStuck, effect, sent, received, step_at, machine_step}
 use Rattle.core_language.specs.Rounds.{is_move, event_entries, run_of}
-use Rattle.machine_rounds.specs.Local.{same, act_at, act_in, alters, uses}
+use Rattle.machine_rounds.specs.Local.{act_at, act_in, alters, uses}
 use Rattle.machine_rounds.proofs.Rounded.{same-self}
 use Rattle.task_rounds.specs.Members.{In}
 use Rattle.task_rounds.specs.Reaching.{NeverSticks}
@@ -82,15 +82,15 @@ module _ (program : Program) (never : NeverSticks program) (t : ℕ) (p : Name) 
         by None e = e
         by (Some u) e = absurd (free_name program (run_of program t) (is_run program t) p s there (ap (λ r. is_some (task_after program t r)) (sym named) ∙ ap is_some e))
 
-    not_itself : same p c ≡ false
+    not_itself : same_name p c ≡ false
     not_itself = differ p c (λ e. let both = sym there ∙ ap (task_after program t) e ∙ unborn in cc)
 
     pub fork : Goes parent (suc s.forks) (Fork c)
-    fork = goes (act.Fork c parent its) _ (Fork c) parent (suc s.forks) is (Forks c parent its) (or_right (same p c) (same p p) (same-self p))
+    fork = goes (act.Fork c parent its) _ (Fork c) parent (suc s.forks) is (Forks c parent its) (or_right (same_name p c) (same_name p p) (same-self p))
         (put_elsewhere (insert (run_of program t).config.tasks p (placed parent (suc s.forks))) c (placed its 0) p not_itself ∙ puts parent (suc s.forks))
 
     pub forked : task_after program (suc t) c ≡ Some (placed its 0)
-    forked = moved_task program never t p (mover_by _ _ (Fork c) is (Forks c parent its)) c (ap (λ b. alters p b c) (act_is ∙ is) ∙ or_left (same c c) (same c p) (same-self c))
+    forked = moved_task program never t p (mover_by _ _ (Fork c) is (Forks c parent its)) c (ap (λ b. alters p b c) (act_is ∙ is) ∙ or_left (same_name c c) (same_name c p) (same-self c))
         ∙ put_here (insert (run_of program t).config.tasks p (placed parent (suc s.forks))) c (placed its 0) c (same-self c)
 
     pub forked_none : entries_after program (suc t) c ≡ []

@@ -1,7 +1,7 @@
 -- Two tasks that move at once alter different tasks and use different channels.
 use Rattle.std.proofs.Common.{◌≡◌, ◌⊎◌, inl, inr, ◌<◌, Bool, true, false, ◌||◌, Option, Some, None, is_some, refl, sym, ap, subst, ◌∙◌}
 use Rattle.std.specs.FinMap.{get}
-use Rattle.core_language.specs.Names.{Name, child}
+use Rattle.core_language.specs.Names.{Name, child, same_name}
 use Rattle.core_language.specs.Values.{Value}
 use Rattle.core_language.specs.Programs.{Program}
 use Rattle.core_language.specs.Computing.{machine, FullChannel, NoChannel}
@@ -9,7 +9,7 @@ use Rattle.core_language.specs.Configurations.{Config, Place, Task}
 use Rattle.core_language.specs.Acts.{Act, act_of}
 use Rattle.core_language.specs.Acts as act
 use Rattle.core_language.specs.Steps.{Event, Send, Recv, Moves, IsStuck, effect, sent, received, step_at, machine_step, after_step}
-use Rattle.machine_rounds.specs.Local.{same, act_at, act_in, alters, uses}
+use Rattle.machine_rounds.specs.Local.{act_at, act_in, alters, uses}
 use Rattle.machine_rounds.proofs.Rounded.{same-self, same-is}
 use Rattle.task_rounds.specs.Reaching.{IsReached, NeverSticks}
 use Rattle.task_rounds.specs.Telling.{forks_made}
@@ -41,9 +41,9 @@ module _ (program : Program) (run : Run) (good : IsRun program run) where
 
     -- a task that the act alters is its own or the child
     pub altered : (a : Act) (x : Name) → a ≡ act_of machine program p t.forks t.place → alters p a x ≡ true → (x ≡ p) ⊎ (x ≡ child p t.forks)
-    altered (act.Fork c parent its) x is h = by (same x c) refl h
+    altered (act.Fork c parent its) x is h = by (same_name x c) refl h
       where
-        by : (b : Bool) → same x c ≡ b → (b || same x p) ≡ true → (x ≡ p) ⊎ (x ≡ child p t.forks)
+        by : (b : Bool) → same_name x c ≡ b → (b || same_name x p) ≡ true → (x ≡ p) ⊎ (x ≡ child p t.forks)
         by true e h = inr (same-is x c e ∙ names_its_child machine program p t.forks t.place c parent its (sym is))
         by false e h = inl (same-is x p h)
     altered (act.Silent place) x is h = inl (same-is x p h)

@@ -6,7 +6,7 @@ use Rattle.std.specs.Ordering.{nat_cmp}
 use Rattle.std.specs.Cmp.Lexicographic.{slice_cmp}
 use Rattle.std.specs.FinMap.{find, get, entries, entries_sorted, keys, get-entries, contains_key-keys}
 use Rattle.std.proofs.lemmas.Bool.{or_left, and_from}
-use Rattle.core_language.specs.Names.{Name}
+use Rattle.core_language.specs.Names.{Name, same_name}
 use Rattle.core_language.specs.Values.{Value}
 use Rattle.core_language.specs.Programs.{Program}
 use Rattle.core_language.specs.Computing.{Halt, Range, Depth, StuckWhy, unbounded}
@@ -18,7 +18,6 @@ use Rattle.core_language.specs.Schedules.{IsMove, IsLive}
 use Rattle.core_language.specs.Rounds.{is_move, moves, movers, run_of}
 use Rattle.core_language.specs.Endings.{Ending, Finished, OutOfRange, TooDeep, is_ended, unended, stuck_why, is_range, is_depth, blocked, moving, too_deep, out_of_range, stuck_or, stuck, is_nil, ending_of}
 use Rattle.core_language.proofs.Halting.{halts_or_steps}
-use Rattle.machine_rounds.specs.Local.{same}
 use Rattle.machine_rounds.proofs.Rounded.{same-self, same-is, keys_ascend, first_is_least, rest_ascends}
 use Rattle.task_rounds.specs.Members.{In}
 use Rattle.task_rounds.specs.Reaching.{NeverSticks}
@@ -37,13 +36,13 @@ in_map e [] h = absurd h
 
 entry_found : {X : Type 0} (e : Name × X) (es : List (Name × X)) → IsStrictlySortedBy (slice_cmp nat_cmp) (map (λ x. x.0) es) → In e es → find (slice_cmp nat_cmp) e.0 es ≡ Some e.1
 entry_found e [] sorted h = absurd h
-entry_found e (f ∷ es) sorted (inl is) = ap (λ b. cond b (Some f.1) (find (slice_cmp nat_cmp) e.0 es)) (ap (λ x. same e.0 x.0) (sym is) ∙ same-self e.0) ∙ ap (λ x. Some x.1) (sym is)
-entry_found e (f ∷ es) sorted (inr h) = by (same e.0 f.0) refl (entry_found e es (rest_ascends f.0 (map (λ x. x.0) es) sorted) h)
+entry_found e (f ∷ es) sorted (inl is) = ap (λ b. cond b (Some f.1) (find (slice_cmp nat_cmp) e.0 es)) (ap (λ x. same_name e.0 x.0) (sym is) ∙ same-self e.0) ∙ ap (λ x. Some x.1) (sym is)
+entry_found e (f ∷ es) sorted (inr h) = by (same_name e.0 f.0) refl (entry_found e es (rest_ascends f.0 (map (λ x. x.0) es) sorted) h)
   where
-    by : (b : Bool) → same e.0 f.0 ≡ b → find (slice_cmp nat_cmp) e.0 es ≡ Some e.1 → cond b (Some f.1) (find (slice_cmp nat_cmp) e.0 es) ≡ Some e.1
+    by : (b : Bool) → same_name e.0 f.0 ≡ b → find (slice_cmp nat_cmp) e.0 es ≡ Some e.1 → cond b (Some f.1) (find (slice_cmp nat_cmp) e.0 es) ≡ Some e.1
     by false g rest = rest
     by true g rest =
-        let there : list_any (same f.0) (map (λ x. x.0) es) ≡ true = member_any (same f.0) e.0 (map (λ x. x.0) es) (in_map e es h) (ap (λ n. same n e.0) (sym (same-is e.0 f.0 g)) ∙ same-self e.0) in
+        let there : list_any (same_name f.0) (map (λ x. x.0) es) ≡ true = member_any (same_name f.0) e.0 (map (λ x. x.0) es) (in_map e es h) (ap (λ n. same_name n e.0) (sym (same-is e.0 f.0 g)) ∙ same-self e.0) in
         let both = sym there ∙ first_is_least f.0 (map (λ x. x.0) es) sorted in
         let bad : ⊥ = cc in
         absurd bad
@@ -113,7 +112,7 @@ module _ (program : Program) (C : Config) where
 
     in_keys : (p : Name) (t : Task) → get C.tasks p ≡ Some t → In p (keys C.tasks)
     in_keys p t there =
-        let (r, h, same_name) = any_member (same p) (keys C.tasks) (sym (contains_key-keys C.tasks p) ∙ ap is_some there) in
+        let (r, h, same_name) = any_member (same_name p) (keys C.tasks) (sym (contains_key-keys C.tasks p) ∙ ap is_some there) in
         subst (λ s. In s (keys C.tasks)) (sym (same-is p r same_name)) h
 
     module _ (no_range : (q : Name) → In q (keys C.tasks) → is_range (machine_step program C q) ≡ false) (no_depth : (q : Name) → In q (keys C.tasks) → is_depth (machine_step program C q) ≡ false) where
@@ -209,7 +208,7 @@ module _ (program : Program) (C : Config) where
           by : (cs : List Name) → keys C.channels ≡ cs → is_nil cs ≡ true
           by [] e = refl
           by (c ∷ cs) e =
-              let there : list_any (same c) (keys C.channels) ≡ true = ap (list_any (same c)) e ∙ or_left (same c c) (list_any (same c) cs) (same-self c) in
+              let there : list_any (same_name c) (keys C.channels) ≡ true = ap (list_any (same_name c)) e ∙ or_left (same_name c c) (list_any (same_name c) cs) (same-self c) in
               let both = sym there ∙ sym (contains_key-keys C.channels c) ∙ ap is_some (none c) in
               let bad : ⊥ = cc in
               absurd bad

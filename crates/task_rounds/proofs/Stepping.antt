@@ -3,7 +3,7 @@ use Rattle.std.proofs.Common.{◌≡◌, ◌⊎◌, inl, inr, ℕ, suc, Bool, tr
 use Rattle.std.specs.List.{list_any}
 use Rattle.std.specs.FinMap.{get}
 use Rattle.std.proofs.lemmas.Bool.{false_from_ne_true}
-use Rattle.core_language.specs.Names.{Name, child}
+use Rattle.core_language.specs.Names.{Name, child, same_name}
 use Rattle.core_language.specs.Values.{Value}
 use Rattle.core_language.specs.Programs.{Program}
 use Rattle.core_language.specs.Computing.{machine}
@@ -12,7 +12,7 @@ use Rattle.core_language.specs.Acts.{Act, act_of}
 use Rattle.core_language.specs.Acts as act
 use Rattle.core_language.specs.Steps.{Event, Recv, machine_step, after_step}
 use Rattle.core_language.specs.Rounds.{Entry, Run, is_move, movers, event_entries, step_entries, round, run_of}
-use Rattle.machine_rounds.specs.Local.{same, act_at, act_in, alters, uses}
+use Rattle.machine_rounds.specs.Local.{act_at, act_in, alters, uses}
 use Rattle.machine_rounds.proofs.Rounded.{same-self, same-is}
 use Rattle.task_rounds.specs.Members.{In}
 use Rattle.task_rounds.specs.Reaching.{NeverSticks}
@@ -96,8 +96,8 @@ module _ (program : Program) (never : NeverSticks program) (t : ℕ) where
     pub still_entries : entries_after program (suc t) p ≡ entries_after program t p
     still_entries = ap (λ (r : Run). own p r.entries) one_round ∙ of_round.round_spares_entries program (suc t) (run_of program t) (is_run program t) never p other
       where
-        other : (q : Name) → Mover q → same q p ≡ false
-        other q m = false_from_ne_true (same q p) (λ e. let both = sym still ∙ ap (λ r. is_move (machine_step program (run_of program t).config r)) (sym (same-is q p e)) ∙ ap is_move m.is in cc)
+        other : (q : Name) → Mover q → same_name q p ≡ false
+        other q m = false_from_ne_true (same_name q p) (λ e. let both = sym still ∙ ap (λ r. is_move (machine_step program (run_of program t).config r)) (sym (same-is q p e)) ∙ ap is_move m.is in cc)
 
   -- ---- a task that isn't there
 
@@ -119,7 +119,7 @@ module _ (program : Program) (never : NeverSticks program) (t : ℕ) where
         cc
 
     pub absent_entries : entries_after program (suc t) p ≡ entries_after program t p
-    absent_entries = ap (λ (r : Run). own p r.entries) one_round ∙ of_round.round_spares_entries program (suc t) (run_of program t) (is_run program t) never p (λ q m. false_from_ne_true (same q p) (λ e. no_mover q m (same-is q p e)))
+    absent_entries = ap (λ (r : Run). own p r.entries) one_round ∙ of_round.round_spares_entries program (suc t) (run_of program t) (is_run program t) never p (λ q m. false_from_ne_true (same_name q p) (λ e. no_mover q m (same-is q p e)))
 
     -- and has no entries yet
     pub none_yet : entries_after program t p ≡ []
@@ -132,9 +132,9 @@ module _ (program : Program) (never : NeverSticks program) (t : ℕ) where
     born_by q m u here a D e (Sends c v place empty) is h s got = absurd (no_mover q m (sym (same-is p q h)))
     born_by q m u here a D e (Receives c v place full) is h s got = absurd (no_mover q m (sym (same-is p q h)))
     born_by q m u here a D e Ends is h s got = absurd (no_mover q m (sym (same-is p q h)))
-    born_by q m u here a D e (Forks c parent its) is h s got = by (same p c) refl h
+    born_by q m u here a D e (Forks c parent its) is h s got = by (same_name p c) refl h
       where
-        by : (b : Bool) → same p c ≡ b → (b || same p q) ≡ true → Born s
+        by : (b : Bool) → same_name p c ≡ b → (b || same_name p q) ≡ true → Born s
         by false f h = absurd (no_mover q m (sym (same-is p q h)))
         by true f h = record {
           by = q;

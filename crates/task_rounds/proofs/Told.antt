@@ -1,14 +1,13 @@
 -- After a move the entries tell what the configuration is made of.
 use Rattle.std.proofs.Common.{◌≡◌, ◌⊎◌, inl, inr, ℕ, suc, ◌<◌, Bool, true, false, ◌||◌, List, ◌++◌, append-nil, Option, Some, None, is_some, refl, sym, ap, subst, ◌∙◌, arith}
 use Rattle.std.specs.FinMap.{get, insert}
-use Rattle.core_language.specs.Names.{Name, NameMap, child}
+use Rattle.core_language.specs.Names.{Name, NameMap, child, same_name}
 use Rattle.core_language.specs.Values.{Value}
 use Rattle.core_language.specs.Configurations.{Config, Place, Ended, Task}
 use Rattle.core_language.specs.Acts.{Act}
 use Rattle.core_language.specs.Acts as act
 use Rattle.core_language.specs.Steps.{Event, Fork, Send, Recv}
 use Rattle.core_language.specs.Rounds.{Entry, event_entries}
-use Rattle.machine_rounds.specs.Local.{same}
 use Rattle.machine_rounds.proofs.Rounded.{same-self, same-is}
 use Rattle.task_rounds.specs.Members.{In}
 use Rattle.task_rounds.specs.Telling.{is_fork_of, is_send_on, is_receive_on, was_made, was_sent, was_received, IsTold, forks_made, printed_by, named_prints, Tells}
@@ -184,10 +183,10 @@ module _ (C : Config) (p : Name) (t : Task) (there : get C.tasks p ≡ Some t) (
       fresh true g e = absurd (not_made (ap (λ r. was_made r es) (sym (e ∙ named c parent its refl)) ∙ g))
 
       here : d ≡ c → Stage d (Fork c) (Some None)
-      here e = subst (λ b. IsTold (was_made d es || b) (was_sent d es || false) (was_received d es || false) (Some None)) (sym (ap (λ r. same r c) e ∙ same-self c))
+      here e = subst (λ b. IsTold (was_made d es || b) (was_sent d es || false) (was_received d es || false) (Some None)) (sym (ap (λ r. same_name r c) e ∙ same-self c))
           (unmade _ _ _ (fresh _ refl e) (subst (IsTold _ _ _) (gone _ refl e) (tells.stages d)))
 
-      there_too : same d c ≡ false → Stage d (Fork c) (get C.channels d)
+      there_too : same_name d c ≡ false → Stage d (Fork c) (get C.channels d)
       there_too e = subst (λ b. IsTold (was_made d es || b) (was_sent d es || false) (was_received d es || false) (get C.channels d)) (sym e) (untold _ _ _ _ (tells.stages d))
   stages_after a D e (Sends c v place empty) named d = by_name C.channels c (Some v) (Stage d (Send c)) d here there_too
     where
@@ -195,10 +194,10 @@ module _ (C : Config) (p : Name) (t : Task) (there : get C.tasks p ≡ Some t) (
       filled m s r (made, sent, received) = (or_false m ∙ made, or_true s, or_false r ∙ received)
 
       here : d ≡ c → Stage d (Send c) (Some (Some v))
-      here e = subst (λ b. IsTold (was_made d es || false) (was_sent d es || b) (was_received d es || false) (Some (Some v))) (sym (ap (λ r. same r c) e ∙ same-self c))
+      here e = subst (λ b. IsTold (was_made d es || false) (was_sent d es || b) (was_received d es || false) (Some (Some v))) (sym (ap (λ r. same_name r c) e ∙ same-self c))
           (filled _ _ _ (subst (IsTold _ _ _) (ap (get C.channels) e ∙ empty) (tells.stages d)))
 
-      there_too : same d c ≡ false → Stage d (Send c) (get C.channels d)
+      there_too : same_name d c ≡ false → Stage d (Send c) (get C.channels d)
       there_too e = subst (λ b. IsTold (was_made d es || false) (was_sent d es || b) (was_received d es || false) (get C.channels d)) (sym e) (untold _ _ _ _ (tells.stages d))
   stages_after a D e (Receives c v place full) named d = by_removed C.channels c (Stage d (Recv c)) d here there_too
     where
@@ -206,10 +205,10 @@ module _ (C : Config) (p : Name) (t : Task) (there : get C.tasks p ≡ Some t) (
       emptied m s r (made, sent, received) = inr (or_false m ∙ made, or_false s ∙ sent, or_true r)
 
       here : d ≡ c → Stage d (Recv c) None
-      here e = subst (λ b. IsTold (was_made d es || false) (was_sent d es || false) (was_received d es || b) None) (sym (ap (λ r. same r c) e ∙ same-self c))
+      here e = subst (λ b. IsTold (was_made d es || false) (was_sent d es || false) (was_received d es || b) None) (sym (ap (λ r. same_name r c) e ∙ same-self c))
           (emptied _ _ _ (subst (IsTold _ _ _) (ap (get C.channels) e ∙ full) (tells.stages d)))
 
-      there_too : same d c ≡ false → Stage d (Recv c) (get C.channels d)
+      there_too : same_name d c ≡ false → Stage d (Recv c) (get C.channels d)
       there_too e = subst (λ b. IsTold (was_made d es || false) (was_sent d es || false) (was_received d es || b) (get C.channels d)) (sym e) (untold _ _ _ _ (tells.stages d))
 
   owners_after : (time : ℕ) (a : Act) (D : Config) (e : Event) → Moved C p t.forks a D e → (x : Entry) → In x (es ++ event_entries time p e) → is_some (get D.tasks x.name) ≡ true

@@ -6,7 +6,7 @@ use Rattle.std.specs.List.Sorted.{IsStrictlySortedBy}
 use Rattle.std.specs.FinMap.{get, insert, keys, entries, entries_sorted, contains_key-keys, get-insert}
 use Rattle.std.proofs.lemmas.List.Kept.{IsStrictlySortedBy-filter}
 use Rattle.std.proofs.lemmas.Bool.{false_from_ne_true, or_right}
-use Rattle.core_language.specs.Names.{Name, NameMap}
+use Rattle.core_language.specs.Names.{Name, NameMap, same_name}
 use Rattle.core_language.specs.Programs.{Program}
 use Rattle.core_language.specs.Computing.{machine}
 use Rattle.core_language.specs.Configurations.{Config, Place, Ended, Task}
@@ -14,7 +14,7 @@ use Rattle.core_language.specs.Acts.{Act, act_of}
 use Rattle.core_language.specs.Acts as act
 use Rattle.core_language.specs.Steps.{Event, Silent, Fork, Send, Recv, Print, End, Step, Moves, Waits, IsEnded, IsAbsent, IsHalted, IsStuck, step_at, machine_step, after_step}
 use Rattle.core_language.specs.Rounds.{Run, is_move, moves, movers, event_entries, step_entries, turn, turns, round}
-use Rattle.machine_rounds.specs.Local.{same, act_at, act_in, alters, uses}
+use Rattle.machine_rounds.specs.Local.{act_at, act_in, alters, uses}
 use Rattle.machine_rounds.proofs.Local.{task_kept, channel_kept}
 use Rattle.machine_rounds.proofs.Rounded.{same-self, same-is, keys_ascend, first_is_least, rest_ascends}
 use Rattle.task_rounds.specs.Members.{In}
@@ -58,19 +58,19 @@ module _ (program : Program) (time : ℕ) (first : Run) (good : IsRun program fi
     Again : Act → Config → Event → Type 0
     Again a D e = (E : Config) × Moved run.config q t.forks a E e × ((x : Name) → alters q a x ≡ true → get E.tasks x ≡ get D.tasks x) × ((d : Name) → uses a d ≡ true → get E.channels d ≡ get D.channels d)
 
-    put_again : (place : Place) (x : Name) → same x q ≡ true → get (insert run.config.tasks q (placed place t.forks)) x ≡ get (insert first.config.tasks q (placed place t.forks)) x
+    put_again : (place : Place) (x : Name) → same_name x q ≡ true → get (insert run.config.tasks q (placed place t.forks)) x ≡ get (insert first.config.tasks q (placed place t.forks)) x
     put_again place x h = put_here run.config.tasks q _ x h ∙ sym (put_here first.config.tasks q _ x h)
 
     again : (a : Act) (D : Config) (e : Event) → act_in program first.config q ≡ a → Moved first.config q t.forks a D e → Again a D e
     unfolding Again
     again a D e is (ByItself place) = (_, ByItself place, λ x h. put_again place x h, λ d h. let bad : ⊥ = cc in absurd bad)
     again a D e is (Prints z place) = (_, Prints z place, λ x h. put_again place x h, λ d h. let bad : ⊥ = cc in absurd bad)
-    again a D e is (Forks c parent its) = (_, Forks c parent its, λ x h. by x (same x c) refl h, λ d h. put_here run.config.channels c _ d h ∙ sym (put_here first.config.channels c _ d h))
+    again a D e is (Forks c parent its) = (_, Forks c parent its, λ x h. by x (same_name x c) refl h, λ d h. put_here run.config.channels c _ d h ∙ sym (put_here first.config.channels c _ d h))
       where
         two : NameMap Task → NameMap Task
         two m = insert (insert m q (placed parent (suc t.forks))) c (placed its 0)
 
-        by : (x : Name) (b : Bool) → same x c ≡ b → (b || same x q) ≡ true → get (insert (insert run.config.tasks q (placed parent (suc t.forks))) c (placed its 0)) x ≡ get (insert (insert first.config.tasks q (placed parent (suc t.forks))) c (placed its 0)) x
+        by : (x : Name) (b : Bool) → same_name x c ≡ b → (b || same_name x q) ≡ true → get (insert (insert run.config.tasks q (placed parent (suc t.forks))) c (placed its 0)) x ≡ get (insert (insert first.config.tasks q (placed parent (suc t.forks))) c (placed its 0)) x
         by x true e h = put_here _ c _ x e ∙ sym (put_here _ c _ x e)
         by x false e h = elsewhere (insert run.config.tasks q (placed parent (suc t.forks))) ∙ put_here run.config.tasks q _ x h ∙ sym (put_here first.config.tasks q _ x h) ∙ sym (elsewhere (insert first.config.tasks q (placed parent (suc t.forks))))
           where
@@ -101,7 +101,7 @@ module _ (program : Program) (time : ℕ) (first : Run) (good : IsRun program fi
   -- ---- turns
 
   alters_itself : (q : Name) (a : Act) → alters q a q ≡ true
-  alters_itself q (act.Fork c parent its) = or_right (same q c) (same q q) (same-self q)
+  alters_itself q (act.Fork c parent its) = or_right (same_name q c) (same_name q q) (same-self q)
   alters_itself q (act.Silent place) = same-self q
   alters_itself q (act.Print z place) = same-self q
   alters_itself q (act.Send c v place) = same-self q
@@ -125,7 +125,7 @@ module _ (program : Program) (time : ℕ) (first : Run) (good : IsRun program fi
 
   is_apart : (ps : List Name) → IsStrictlySortedBy (slice_cmp nat_cmp) ps → generic.AreApart (turn program time) Ready (IsMover program first.config) (λ r. r) (λ q. true) (λ q r. r) ps
   is_apart [] h = tt
-  is_apart (p ∷ ps) h = (λ q g e. let both = sym (member_any (same p) q ps g (ap (same p) (sym e) ∙ same-self p)) ∙ first_is_least p ps h in cc, is_apart ps (rest_ascends p ps h))
+  is_apart (p ∷ ps) h = (λ q g e. let both = sym (member_any (same_name p) q ps g (ap (same_name p) (sym e) ∙ same-self p)) ∙ first_is_least p ps h in cc, is_apart ps (rest_ascends p ps h))
 
   pub are_movers : (q : Name) → In q (movers program first.config) → IsMover program first.config q
   are_movers q h = by (machine_step program first.config q) refl (from_filter (moves program first.config) q (keys first.config.tasks) h).1
@@ -144,7 +144,7 @@ module _ (program : Program) (time : ℕ) (first : Run) (good : IsRun program fi
       in_keys : In q (keys first.config.tasks)
       in_keys =
           let (t, there, move) = mover program first.config q m.next m.event m.is in
-          let (r, h, same_name) = any_member (same q) (keys first.config.tasks) (sym (contains_key-keys first.config.tasks q) ∙ ap is_some there) in
+          let (r, h, same_name) = any_member (same_name q) (keys first.config.tasks) (sym (contains_key-keys first.config.tasks q) ∙ ap is_some there) in
           subst (λ s. In s (keys first.config.tasks)) (sym (same-is q r same_name)) h
 
   -- ---- what a round does
@@ -220,7 +220,7 @@ module _ (program : Program) (time : ℕ) (first : Run) (good : IsRun program fi
 
     -- ---- entries
 
-    own_new : (q : Name) (b : Bool) → same q x ≡ b → (e : Event) → own x (event_entries time q e) ≡ cond b (event_entries time q e) []
+    own_new : (q : Name) (b : Bool) → same_name q x ≡ b → (e : Event) → own x (event_entries time q e) ≡ cond b (event_entries time q e) []
     own_new q true h Silent = refl
     own_new q false h Silent = refl
     own_new q b h (Fork c) = ap (λ b. cond b (record { time = time; name = q; event = Fork c } ∷ []) []) h
@@ -232,20 +232,20 @@ module _ (program : Program) (time : ℕ) (first : Run) (good : IsRun program fi
     turn_entries : (run : Run) (p : Name) (m : IsMover program first.config p) → Ready run p → (turn program time run p).entries ≡ run.entries ++ event_entries time p m.event
     turn_entries run p m ready = ap (λ s. run.entries ++ step_entries time p s) (repeats run p m ready).is
 
-    own_turn : (run : Run) (p : Name) (m : IsMover program first.config p) → Ready run p → (b : Bool) → same p x ≡ b → own x (turn program time run p).entries ≡ own x run.entries ++ cond b (event_entries time p m.event) []
+    own_turn : (run : Run) (p : Name) (m : IsMover program first.config p) → Ready run p → (b : Bool) → same_name p x ≡ b → own x (turn program time run p).entries ≡ own x run.entries ++ cond b (event_entries time p m.event) []
     own_turn run p m ready b h = ap (own x) (turn_entries run p m ready) ∙ own-append x run.entries (event_entries time p m.event) ∙ ap (λ l. own x run.entries ++ l) (own_new p b h m.event)
 
-    own_keeps : (run : Run) (p : Name) → IsMover program first.config p → Ready run p → same p x ≡ false → own x (turn program time run p).entries ≡ own x run.entries
+    own_keeps : (run : Run) (p : Name) → IsMover program first.config p → Ready run p → same_name p x ≡ false → own x (turn program time run p).entries ≡ own x run.entries
     own_keeps run p m ready h = own_turn run p m ready false h ∙ append-nil (own x run.entries)
 
-    own_sets : (run : Run) (p : Name) → IsMover program first.config p → Ready run p → same p x ≡ true → own x (turn program time run p).entries ≡ own x run.entries ++ step_entries time p (machine_step program first.config p)
+    own_sets : (run : Run) (p : Name) → IsMover program first.config p → Ready run p → same_name p x ≡ true → own x (turn program time run p).entries ≡ own x run.entries ++ step_entries time p (machine_step program first.config p)
     own_sets run p m ready h = own_turn run p m ready true h ∙ ap (λ s. own x run.entries ++ step_entries time p s) (sym m.is)
 
-    own_alone : (p q : Name) → IsMover program first.config p → IsMover program first.config q → same p x ≡ true → same q x ≡ true → (p ≡ q → ⊥) → ⊥
+    own_alone : (p q : Name) → IsMover program first.config p → IsMover program first.config q → same_name p x ≡ true → same_name q x ≡ true → (p ≡ q → ⊥) → ⊥
     own_alone p q mp mq h g apart = apart (same-is p x h ∙ sym (same-is q x g))
 
-    pub round_spares_entries : ((q : Name) → IsMover program first.config q → same q x ≡ false) → own x (round program time first).entries ≡ own x first.entries
-    round_spares_entries = seen_same (λ run. own x run.entries) (λ q. same q x) (λ q es. es ++ step_entries time q (machine_step program first.config q)) own_keeps own_sets own_alone
+    pub round_spares_entries : ((q : Name) → IsMover program first.config q → same_name q x ≡ false) → own x (round program time first).entries ≡ own x first.entries
+    round_spares_entries = seen_same (λ run. own x run.entries) (λ q. same_name q x) (λ q es. es ++ step_entries time q (machine_step program first.config q)) own_keeps own_sets own_alone
 
-    pub round_adds_entries : (q : Name) → IsMover program first.config q → same q x ≡ true → own x (round program time first).entries ≡ own x first.entries ++ step_entries time q (machine_step program first.config q)
-    round_adds_entries = seen_changed (λ run. own x run.entries) (λ q. same q x) (λ q es. es ++ step_entries time q (machine_step program first.config q)) own_keeps own_sets own_alone
+    pub round_adds_entries : (q : Name) → IsMover program first.config q → same_name q x ≡ true → own x (round program time first).entries ≡ own x first.entries ++ step_entries time q (machine_step program first.config q)
+    round_adds_entries = seen_changed (λ run. own x run.entries) (λ q. same_name q x) (λ q es. es ++ step_entries time q (machine_step program first.config q)) own_keeps own_sets own_alone

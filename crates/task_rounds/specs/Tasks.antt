@@ -1,13 +1,12 @@
 -- One task and one channel in the round run.
 use Rattle.std.specs.Prelude.{◌≡◌, ℕ, List, filter, Option, Some}
 use Rattle.std.specs.FinMap.{get}
-use Rattle.core_language.specs.Names.{Name}
+use Rattle.core_language.specs.Names.{Name, same_name}
 use Rattle.core_language.specs.Values.{Value}
 use Rattle.core_language.specs.Programs.{Program}
 use Rattle.core_language.specs.Configurations.{Place, Task}
 use Rattle.core_language.specs.Steps.{Send}
 use Rattle.core_language.specs.Rounds.{Entry, run_of}
-use Rattle.machine_rounds.specs.Local.{same}
 use Rattle.task_rounds.specs.Members.{In}
 
 -- a task at a place, which has made so many forks
@@ -16,7 +15,7 @@ placed place forks = record { place = place; forks = forks }
 
 -- the entries of the task p among these
 abbrev pub own : Name → List Entry → List Entry
-own p entries = filter (λ e. same e.name p) entries
+own p entries = filter (λ e. same_name e.name p) entries
 
 module _ (program : Program) where
   -- the state of the task p after t rounds, where there is such a task

@@ -2,16 +2,15 @@
 use Rattle.std.specs.Prelude.{◌≡◌, ◌⊎◌, ℕ, ℤ, ◌<◌, Bool, true, false, List, [], ◌∷◌, Option, Some, None, is_some}
 use Rattle.std.specs.List.{list_any, flat_map}
 use Rattle.std.specs.FinMap.{get}
-use Rattle.core_language.specs.Names.{Name, child}
+use Rattle.core_language.specs.Names.{Name, child, same_name}
 use Rattle.core_language.specs.Values.{Value}
 use Rattle.core_language.specs.Configurations.{Config, Task}
 use Rattle.core_language.specs.Steps.{Event, Silent, Fork, Send, Recv, Print, End}
 use Rattle.core_language.specs.Rounds.{Entry}
-use Rattle.machine_rounds.specs.Local.{same}
 use Rattle.task_rounds.specs.Members.{In}
 
 abbrev pub is_fork_of : Name → Event → Bool
-is_fork_of c (Fork d) = same c d
+is_fork_of c (Fork d) = same_name c d
 is_fork_of c Silent = false
 is_fork_of c (Send d) = false
 is_fork_of c (Recv d) = false
@@ -19,7 +18,7 @@ is_fork_of c (Print z) = false
 is_fork_of c End = false
 
 abbrev pub is_send_on : Name → Event → Bool
-is_send_on c (Send d) = same c d
+is_send_on c (Send d) = same_name c d
 is_send_on c Silent = false
 is_send_on c (Fork d) = false
 is_send_on c (Recv d) = false
@@ -27,7 +26,7 @@ is_send_on c (Print z) = false
 is_send_on c End = false
 
 abbrev pub is_receive_on : Name → Event → Bool
-is_receive_on c (Recv d) = same c d
+is_receive_on c (Recv d) = same_name c d
 is_receive_on c Silent = false
 is_receive_on c (Fork d) = false
 is_receive_on c (Send d) = false
