@@ -5,7 +5,7 @@ use Rattle.std.proofs.Math.IntN as Z
 use Rattle.core_language.specs.Names.{Ident, same}
 use Rattle.core_language.specs.Terms.{Part, Term}
 use Rattle.farkas_check.proofs.Products.{distribute_right, neg_times}
-use Rattle.linear_forms.specs.Terms.{times_of, counted, sum_of}
+use Rattle.linear_forms.specs.Terms.{times_of, counted, sum_of, negated, less}
 use Rattle.linear_forms.specs.NormalTerms.{one_named, count_of, bare_of, IsSameSum}
 use Rattle.linear_forms.proofs.SameNames.{same_is, same-self}
 
@@ -77,28 +77,27 @@ no_counts (suc n) (p ∷ ps) l h u a = each p.name refl (no_counts n)
         let bare : bare_of (p ∷ ps) ≡ bare_of (without x (p ∷ ps)) = omega (arith, ints, sum-split x (pos 1) (λ y. pos 0) (p ∷ ps), Z.*ℤ-zero (count_of x (p ∷ ps))) in
         rw (sum, bare, gone) (again (without x ps) (omega (arith, without-shorter x ps)) none u a)
 
--- a term taken away
-abbrev turned_part : Part → Part
-turned_part p = record { negative = not p.negative; factor = p.factor; name = p.name }
-
+-- ---- a term taken away
 neg_neg : (z : ℤ) → neg_ℤ (neg_ℤ z) ≡ z
 neg_neg z = omega (arith, ints)
 
-times-turned : (p : Part) → times_of (turned_part p) ≡ neg_ℤ (times_of p)
-times-turned p = pick p.negative
+pub times-negated : (p : Part) → times_of (negated p) ≡ neg_ℤ (times_of p)
+times-negated p = pick p.negative
   where
     pick : (b : Bool) → (if not b then neg_ℤ p.factor else p.factor) ≡ neg_ℤ (if b then neg_ℤ p.factor else p.factor)
     pick true = sym (neg_neg p.factor)
     pick false = refl
 
-sum-turned : (u : ℤ) (a : Ident → ℤ) (t : Term) → sum_of u a (map turned_part t) ≡ neg_ℤ (sum_of u a t)
-sum-turned u a [] = refl
-sum-turned u a (p ∷ ps) = rw (times-turned p) (omega (arith, ints, neg_times (times_of p) (counted u a p.name), sum-turned u a ps))
+pub sum-negated : (u : ℤ) (a : Ident → ℤ) (t : Term) → sum_of u a (map negated t) ≡ neg_ℤ (sum_of u a t)
+sum-negated u a [] = refl
+sum-negated u a (p ∷ ps) = rw (times-negated p) (omega (arith, ints, neg_times (times_of p) (counted u a p.name), sum-negated u a ps))
+
+pub sum-less : (u : ℤ) (a : Ident → ℤ) (s t : Term) → sum_of u a (less s t) ≡ sum_of u a s -ℤ sum_of u a t
+sum-less u a s t = omega (arith, ints, sum-append u a s (map negated t), sum-negated u a t)
 
 -- terms that count each name and the unit alike have one sum everywhere
 pub same_counts : (s t : Term) → ((x : Ident) → count_of x s ≡ count_of x t) → bare_of s ≡ bare_of t → IsSameSum s t
 same_counts s t h b = λ u a.
-    let apart : (v : ℤ) (c : Ident → ℤ) → sum_of v c (s ++ map turned_part t) ≡ sum_of v c s -ℤ sum_of v c t = λ v c. omega (arith, ints, sum-append v c s (map turned_part t), sum-turned v c t) in
-    let none : (x : Ident) → count_of x (s ++ map turned_part t) ≡ pos 0 = λ x. omega (arith, ints, apart (pos 0) (one_named x), h x) in
-    let bare : bare_of (s ++ map turned_part t) ≡ pos 0 = omega (arith, ints, apart (pos 1) (λ x. pos 0), b) in
-    omega (arith, ints, apart u a, no_counts (length (s ++ map turned_part t)) (s ++ map turned_part t) (omega arith) none u a, ap (λ k. k *ℤ u) bare, Z.zero-*ℤ u)
+    let none : (x : Ident) → count_of x (less s t) ≡ pos 0 = λ x. omega (arith, ints, sum-less (pos 0) (one_named x) s t, h x) in
+    let bare : bare_of (less s t) ≡ pos 0 = omega (arith, ints, sum-less (pos 1) (λ x. pos 0) s t, b) in
+    omega (arith, ints, sum-less u a s t, no_counts (length (less s t)) (less s t) (omega arith) none u a, ap (λ k. k *ℤ u) bare, Z.zero-*ℤ u)

@@ -1,5 +1,5 @@
 -- What `normal` answers, memory aside.
-use Rattle.std.specs.Prelude.{ℤ, pos, negsuc, int_le, Bool, not, ◌&&◌, ◌||◌, if◌then◌else◌, List, flat_map, find, Option, Some, None, option_to_list, Result, Ok, Err}
+use Rattle.std.specs.Prelude.{◌≡◌, ℤ, pos, negsuc, int_le, Bool, true, false, not, ◌&&◌, ◌||◌, if◌then◌else◌, List, flat_map, find, Option, Some, None, option_to_list, Result, Ok, Err}
 use Rattle.std.specs.List.{list_all, list_any}
 use Rattle.core_language.specs.Names.{Ident, same}
 use Rattle.core_language.specs.Terms.{Term}
@@ -23,6 +23,11 @@ not_int names term = find (λ x. not (is_int names x)) (names_of term)
 -- within 64 bits
 abbrev pub fits : ℤ → Bool
 fits z = int_le (negsuc 9223372036854775807) z && int_le z (pos 9223372036854775807)
+
+-- a number where 64 bits hold it, else the fault
+abbrev pub IsNumberOf : {E : Type 0} → (too_large : E) → ℤ → Result ℤ E → Type 0
+IsNumberOf too_large z (Ok n) = (n ≡ z) × (fits z ≡ true)
+IsNumberOf too_large z (Err fault) = (fault ≡ too_large) × (fits z ≡ false)
 
 abbrev pub row_fits : Row → Bool
 row_fits row = list_all fits row.coefficients && fits row.constant

@@ -10,6 +10,7 @@ use Rattle.core_language.specs.Terms.{Part, Term}
 use Rattle.farkas_check.proofs.Products.{neg_times}
 use Rattle.linear_forms.specs.Terms.{times_of, counted, sum_of, negated, less, one}
 use Rattle.linear_forms.specs.Normal.{fits}
+use Rattle.linear_forms.proofs.Counts.{sum-append, sum-less}
 use Rattle.chan_syntax.specs.declared.linear.Part.{Part as Written}
 use Rattle.chan_syntax.specs.declared.linear.Limit.{Limit}
 use Rattle.chan_syntax.specs.declared.linear.Relation.TheVariants as relation
@@ -17,24 +18,6 @@ use Rattle.chan_syntax.specs.Reading.{part_of, term_of, relation_of, limit_of}
 use Rattle.narrow_terms.specs.declared.narrowness.Sums.{Sums}
 use Rattle.narrow_terms.specs.Numbers.{name_fits, are_narrow, is_narrow, is_narrow_limit, rows_of}
 use Rattle.narrow_terms.specs.Sums.{count_in, difference_in, IsSumOf}
-
-sum-append : (u : ℤ) (at : Ident → ℤ) (a b : Term) → sum_of u at (a ++ b) ≡ sum_of u at a +ℤ sum_of u at b
-sum-append u at [] b = omega (arith, ints)
-sum-append u at (p ∷ ps) b = omega (arith, ints, sum-append u at ps b)
-
-times-negated : (p : Part) → times_of (negated p) ≡ neg_ℤ (times_of p)
-times-negated p = by p.negative
-  where
-    by : (b : Bool) → (if not b then neg_ℤ p.factor else p.factor) ≡ neg_ℤ (if b then neg_ℤ p.factor else p.factor)
-    by true = sym (Z.neg_ℤ-neg_ℤ p.factor)
-    by false = refl
-
-sum-negated : (u : ℤ) (at : Ident → ℤ) (b : Term) → sum_of u at (map negated b) ≡ neg_ℤ (sum_of u at b)
-sum-negated u at [] = refl
-sum-negated u at (p ∷ ps) = rw (times-negated p, neg_times (times_of p) (counted u at p.name), sum-negated u at ps) (omega (arith, ints))
-
-difference : (u : ℤ) (at : Ident → ℤ) (a b : Term) → sum_of u at (less a b) ≡ sum_of u at a -ℤ sum_of u at b
-difference u at a b = omega (arith, ints, sum-append u at a (map negated b), sum-negated u at b)
 
 pub narrow-nil : (count : Ident → ℤ) → are_narrow count [] ≡ true
 unfolding are_narrow
@@ -98,10 +81,10 @@ row a b left right l r =
     ∙ ap (λ z. are_narrow (λ x. count_of x (less a b)) (less a b) && fits z) constants
   where
     counts : (x : Ident) → count_of x (less a b) ≡ count_in left x -ℤ count_in right x
-    counts x = rw (l.counts x, r.counts x) (difference (pos 0) (one_named x) a b)
+    counts x = rw (l.counts x, r.counts x) (sum-less (pos 0) (one_named x) a b)
 
     constants : left.constant -ℤ right.constant ≡ bare_of (less a b)
-    constants = rw (l.constant, r.constant) (sym (difference (pos 1) (λ y. pos 0) a b))
+    constants = rw (l.constant, r.constant) (sym (sum-less (pos 1) (λ y. pos 0) a b))
 
 and_true : (b : Bool) → (b && true) ≡ b
 and_true true = refl
@@ -119,13 +102,13 @@ strict_row a b left right l r =
     ∙ ap (λ z. are_narrow (λ x. count_of x (less a b ++ one ∷ [])) (less a b ++ one ∷ []) && fits z) constants
   where
     counts : (x : Ident) → count_of x (less a b ++ one ∷ []) ≡ count_in left x -ℤ count_in right x
-    counts x = rw (l.counts x, r.counts x) (omega (arith, ints, sum-append (pos 0) (one_named x) (less a b) (one ∷ []), difference (pos 0) (one_named x) a b))
+    counts x = rw (l.counts x, r.counts x) (omega (arith, ints, sum-append (pos 0) (one_named x) (less a b) (one ∷ []), sum-less (pos 0) (one_named x) a b))
 
     names : are_narrow (λ x. count_of x (less a b ++ one ∷ [])) (less a b ++ one ∷ []) ≡ (are_narrow (difference_in left right) a && are_narrow (difference_in left right) b)
     names = narrow-append (λ x. count_of x (less a b ++ one ∷ [])) (less a b) (one ∷ []) ∙ ap (λ c. are_narrow (λ x. count_of x (less a b ++ one ∷ [])) (less a b) && c) (one_narrow (λ x. count_of x (less a b ++ one ∷ []))) ∙ and_true (are_narrow (λ x. count_of x (less a b ++ one ∷ [])) (less a b)) ∙ less_narrow (λ x. count_of x (less a b ++ one ∷ [])) (difference_in left right) a b counts
 
     constants : (left.constant +ℤ pos 1) -ℤ right.constant ≡ bare_of (less a b ++ one ∷ [])
-    constants = rw (l.constant, r.constant) (omega (arith, ints, sum-append (pos 1) (λ y. pos 0) (less a b) (one ∷ []), difference (pos 1) (λ y. pos 0) a b))
+    constants = rw (l.constant, r.constant) (omega (arith, ints, sum-append (pos 1) (λ y. pos 0) (less a b) (one ∷ []), sum-less (pos 1) (λ y. pos 0) a b))
 
 -- ---- limits by their relations
 

@@ -1,13 +1,10 @@
 -- Sums of the places of a row.
-use Rattle.std.specs.Prelude.{◌≡◌, ℕ, ◌≤◌, ℤ, pos, ◌+ℤ◌, ◌*ℤ◌, unsigned_abs, true, false, List, All, map, length, Result, Ok, Err}
+use Rattle.std.specs.Prelude.{◌≡◌, ℕ, ◌≤◌, ℤ, pos, ◌+ℤ◌, ◌*ℤ◌, unsigned_abs, List, All, map, length}
 use Rattle.std.specs.List.{range_with_len}
 use Rattle.core_language.specs.Names.{Ident}
 use Rattle.core_language.specs.Terms.{Part, Term}
 use Rattle.linear_forms.specs.Terms.{IntVar, times_of, counted, sum_of, named, by_place, unit_at}
 use Rattle.farkas_check.specs.declared.cert.Row.{Row}
-use Rattle.linear_forms.specs.Normal.{fits}
-use Rattle.outline_rules.specs.declared.naming.TermFault.{TermFault}
-use Rattle.outline_rules.specs.declared.naming.TermFault.TheVariants.{TooLarge}
 use Rattle.outline_rules.specs.declared.sums.Sums.{Sums}
 
 -- the row of the sums
@@ -36,8 +33,3 @@ AddsTerm ints weight term = Adds (length ints) (λ i. weight *ℤ sum_of (pos 0)
 -- a part that may name a program variable
 abbrev pub AddsMeaning : List Ident → List IntVar → Part → Sums → Sums → Type 0
 AddsMeaning ints vars part = Adds (length ints) (λ i. times_of part *ℤ counted (pos 0) (named vars (pos 0) (by_place ints (unit_at i))) part.name) (times_of part *ℤ counted (pos 1) (named vars (pos 1) (λ x. pos 0)) part.name)
-
--- a sum where 64 bits hold it
-abbrev pub IsNumberOf : ℤ → Result ℤ TermFault → Type 0
-IsNumberOf z (Ok n) = (n ≡ z) × (fits z ≡ true)
-IsNumberOf z (Err fault) = (fault ≡ TooLarge) × (fits z ≡ false)

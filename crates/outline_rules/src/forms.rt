@@ -3,8 +3,10 @@ ghost use Rattle.std.specs.Prelude.{◌≡◌, map, Ok, MatchResult, IfOk, IfErr
 ghost use Rattle.std.specs.Option.{option_copied};
 ghost use Rattle.chan_syntax.specs.Reading.{part_of, term_of};
 ghost use Rattle.linear_forms.specs.Normal as form;
+ghost use Rattle.linear_forms.specs.Normal.{IsNumberOf};
+ghost use Rattle.outline_rules.specs.declared.naming.TermFault.TheVariants as cause;
 ghost use Rattle.outline_rules.specs.Naming.{int_names_of, IsFaultOf};
-ghost use Rattle.outline_rules.specs.Sums.{row_in, IsNumberOf};
+ghost use Rattle.outline_rules.specs.Sums.{row_in};
 
 use crate::naming::{IntNames, TermFault, is_int};
 use crate::sums::{Sums, sums_of};
@@ -28,7 +30,7 @@ fn first_unknown<'a>(names: &IntNames, parts: &'a [Part]) -> Option<&'a Ident>
 }
 
 fn number(sum: &Wide) -> Result<i64, TermFault>
-    ensures { IsNumberOf sum.now result }
+    ensures { IsNumberOf cause.TooLarge sum.now result }
 {
     sum.to_i64().ok_or(TermFault::TooLarge)
 }

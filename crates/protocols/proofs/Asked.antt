@@ -13,7 +13,7 @@ use Rattle.farkas_check.specs.declared.cert.Row.{Row}
 use Rattle.farkas_check.specs.declared.cert.Mention.{Mention}
 use Rattle.farkas_check.specs.declared.cert.Cert.{Cert}
 use Rattle.farkas_check.specs.declared.cert.CertFault.{CertFault}
-use Rattle.linear_forms.specs.Terms.{IntVar, IntNames, normal_form}
+use Rattle.linear_forms.specs.Terms.{IntVar, IntNames, normal_form, put_of, negated, less}
 use Rattle.linear_forms.specs.Normal.{row_fits, names_of, is_int, not_int, within_64_bits, normal_of, normal_if}
 use Rattle.linear_forms.specs.Normal as form
 use Rattle.linear_forms.specs.Substitution.{Each, Fits, IsNormalPut}
@@ -24,9 +24,7 @@ use Rattle.chan_syntax.specs.declared.linear.Term as written
 use Rattle.chan_syntax.specs.declared.operands.WrittenCert.{WrittenCert}
 use Rattle.outline_rules.specs.Naming.{int_var_of, int_names_of}
 use Rattle.outline_rules.specs.declared.naming.IntNames as context
-use Rattle.substitution.specs.Scopes.{put_of}
-use Rattle.protocols.specs.Unfolding.{arguments, turned_part, less, asked_term, NamesOnly, mention_for, taken, BranchNotProved}
-use Rattle.protocols.proofs.Forming.{put_is}
+use Rattle.protocols.specs.Unfolding.{asked_term, NamesOnly, mention_for, taken, BranchNotProved}
 
 -- ---- names of what is asked
 
@@ -39,23 +37,23 @@ names_both P [] u h k = k
 names_both P (p ∷ ps) u h k =
     all_append P (option_to_list p.name) (names_of (ps ++ u)) (all_left P (option_to_list p.name) (names_of ps) h) (names_both P ps u (all_right P (option_to_list p.name) (names_of ps) h) k)
 
-names_turned : (u : Term) → names_of (map turned_part u) ≡ names_of u
+names_turned : (u : Term) → names_of (map negated u) ≡ names_of u
 names_turned [] = refl
 names_turned (p ∷ ps) = ap (λ l. option_to_list p.name ++ l) (names_turned ps)
 
 names_less : (P : Ident → Type 0) (t u : Term) → All P (names_of t) → All P (names_of u) → All P (names_of (less t u))
-names_less P t u h k = names_both P t (map turned_part u) h (subst (All P) (sym (names_turned u)) k)
+names_less P t u h k = names_both P t (map negated u) h (subst (All P) (sym (names_turned u)) k)
 
 names_asked : (P : Ident → Type 0) (letter : operand.Letter) (left right : Term) → All P (names_of left) → All P (names_of right) → All P (names_of (asked_term letter left right))
 names_asked P First left right h k = names_less P left right h k
 names_asked P Second left right h k = names_less P right left k h
 
-param_is_int : (ints params : List Ident) (args : List Term) (x : Ident) → length args ≡ length params → list_any (λ p. same p x) params ≡ true → is_int (record { ints = ints; vars = arguments params args }) x ≡ true
+param_is_int : (ints params : List Ident) (args : List Term) (x : Ident) → length args ≡ length params → list_any (λ p. same p x) params ≡ true → is_int (record { ints = ints; vars = put_of params args }) x ≡ true
 param_is_int ints [] args x l m = absurd (false≢true m)
 param_is_int ints (p ∷ ps) [] x l m = absurd (omega (arith, l))
 param_is_int ints (p ∷ ps) (t ∷ ts) x l m = pick (same p x) refl (λ k. param_is_int ints ps ts x (omega (arith, l)) k)
   where
-    pick : (b : Bool) → same p x ≡ b → (list_any (λ q. same q x) ps ≡ true → is_int (record { ints = ints; vars = arguments ps ts }) x ≡ true) → is_int (record { ints = ints; vars = arguments (p ∷ ps) (t ∷ ts) }) x ≡ true
+    pick : (b : Bool) → same p x ≡ b → (list_any (λ q. same q x) ps ≡ true → is_int (record { ints = ints; vars = put_of ps ts }) x ≡ true) → is_int (record { ints = ints; vars = put_of (p ∷ ps) (t ∷ ts) }) x ≡ true
     pick true q again = rw q refl
     pick false q again = let later : list_any (λ q. same q x) ps ≡ true = rw q at m in rw q (again later)
 
@@ -67,9 +65,9 @@ all_to : {X : Type 0} (P Q : X → Type 0) (xs : List X) → ((x : X) → P x �
 all_to P Q [] f h = All-nil Q
 all_to P Q (x ∷ xs) f h = All-cons Q x xs (f x (All-head P x xs h)) (all_to P Q xs f (All-tail P x xs h))
 
-asked_is_int : (ints params : List Ident) (args : List Term) (letter : operand.Letter) (left right : Term) → length args ≡ length params → NamesOnly params left → NamesOnly params right → not_int (record { ints = ints; vars = arguments params args }) (asked_term letter left right) ≡ None
+asked_is_int : (ints params : List Ident) (args : List Term) (letter : operand.Letter) (left right : Term) → length args ≡ length params → NamesOnly params left → NamesOnly params right → not_int (record { ints = ints; vars = put_of params args }) (asked_term letter left right) ≡ None
 asked_is_int ints params args letter left right l h k =
-    let names : IntNames = record { ints = ints; vars = arguments params args } in
+    let names : IntNames = record { ints = ints; vars = put_of params args } in
     none_found (is_int names) (names_of (asked_term letter left right)) (all_to (λ x. list_any (λ p. same p x) params ≡ true) (λ x. is_int names x ≡ true) (names_of (asked_term letter left right)) (λ x m. param_is_int ints params args x l m) (names_asked (λ x. list_any (λ p. same p x) params ≡ true) letter left right h k))
 
 never : (row : Row) (x : Ident) → within_64_bits row ≡ Err (form.NotInt x) → ⊥
@@ -80,7 +78,7 @@ never row x e = pick (row_fits row) e
     pick false f = absurd cc
 
 -- each name of what is asked is an integer
-pub never_not_int : (names : context.IntNames) (term : written.Term) (params : List Ident) (args : List Term) (letter : operand.Letter) (left right : Term) (x : Ident) → map int_var_of names.vars ≡ arguments params args → length args ≡ length params → term_of term ≡ asked_term letter left right → NamesOnly params left → NamesOnly params right → normal_of (int_names_of names) (term_of term) ≡ Err (form.NotInt x) → ⊥
+pub never_not_int : (names : context.IntNames) (term : written.Term) (params : List Ident) (args : List Term) (letter : operand.Letter) (left right : Term) (x : Ident) → map int_var_of names.vars ≡ put_of params args → length args ≡ length params → term_of term ≡ asked_term letter left right → NamesOnly params left → NamesOnly params right → normal_of (int_names_of names) (term_of term) ≡ Err (form.NotInt x) → ⊥
 never_not_int names term params args letter left right x vars l is h k e =
     let ints : not_int (int_names_of names) (term_of term) ≡ None = rw (vars, is) (asked_is_int names.ints params args letter left right l h k) in
     never (normal_form (int_names_of names) (term_of term)) x (sym (ap (λ o. normal_if o (normal_form (int_names_of names) (term_of term))) ints) ∙ e)
@@ -95,14 +93,12 @@ two_fit put [] l r h = absurd h
 two_fit put (u ∷ []) l r h = absurd h.1
 two_fit put (u ∷ v ∷ vs) l r h = (h.0.fits, h.1.0.fits)
 
-pub terms_fit : (params : List Ident) (args : List written.Term) (ts us : List Term) (l r : Term) → ts ≡ l ∷ r ∷ [] → Each (IsNormalPut (put_of params args) [] []) ts us → Fits (arguments params (map term_of args)) [] l × Fits (arguments params (map term_of args)) [] r
-terms_fit params args ts us l r e each =
-    two_fit (arguments params (map term_of args)) us l r (subst (λ (put : List IntVar). Each (IsNormalPut put [] []) (l ∷ r ∷ []) us) (put_is params args) (subst (λ (xs : List Term). Each (IsNormalPut (put_of params args) [] []) xs us) e each))
+pub terms_fit : (put : List IntVar) (ts us : List Term) (l r : Term) → ts ≡ l ∷ r ∷ [] → Each (IsNormalPut put [] []) ts us → Fits put [] l × Fits put [] r
+terms_fit put ts us l r e each = two_fit put us l r (subst (λ (xs : List Term). Each (IsNormalPut put [] []) xs us) e each)
 
-pub terms_too_large : (params : List Ident) (args : List written.Term) (ts : List Term) (l r : Term) → ts ≡ l ∷ r ∷ [] → (All (Fits (put_of params args) []) ts → ⊥) → Fits (arguments params (map term_of args)) [] l → Fits (arguments params (map term_of args)) [] r → ⊥
-terms_too_large params args ts l r e none fit_l fit_r =
-    let back : (t : Term) → Fits (arguments params (map term_of args)) [] t → Fits (put_of params args) [] t = λ t f. subst (λ (put : List IntVar). Fits put [] t) (sym (put_is params args)) f in
-    none (subst (λ (xs : List Term). All (Fits (put_of params args) []) xs) (sym e) (All-cons (Fits (put_of params args) []) l (r ∷ []) (back l fit_l) (All-cons (Fits (put_of params args) []) r [] (back r fit_r) (All-nil (Fits (put_of params args) [])))))
+pub terms_too_large : (put : List IntVar) (ts : List Term) (l r : Term) → ts ≡ l ∷ r ∷ [] → (All (Fits put []) ts → ⊥) → Fits put [] l → Fits put [] r → ⊥
+terms_too_large put ts l r e none fit_l fit_r =
+    none (subst (λ (xs : List Term). All (Fits put []) xs) (sym e) (All-cons (Fits put []) l (r ∷ []) fit_l (All-cons (Fits put []) r [] fit_r (All-nil (Fits put [])))))
 
 -- ---- certificates
 

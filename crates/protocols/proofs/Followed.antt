@@ -6,12 +6,12 @@ use Rattle.core_language.specs.Terms.{Term}
 use Rattle.core_language.specs.Resources.{Ref, Equation, Proto, Send, Recv, Close, Wait, Branch}
 use Rattle.core_language.specs.Operands.{Letter, First, Second}
 use Rattle.farkas_check.specs.Rows.{value_at}
-use Rattle.linear_forms.specs.Terms.{sum_of, by_place}
+use Rattle.linear_forms.specs.Terms.{sum_of, by_place, put_of}
 use Rattle.linear_forms.specs.Substitution.{Each, IsNormalPut, IsRefLike}
 use Rattle.linear_forms.proofs.Shorts.{all_left, all_right}
 use Rattle.protocols.specs.Duals.{dual_equation, dual_ref, branches_of}
 use Rattle.protocols.specs.Heads.{Head, HasHead, Concrete, concrete, argument, equation_of_end, way, on_way}
-use Rattle.protocols.specs.Unfolding.{Setting, arguments, asked_row, On, Follows, NamesOnly, branch_terms, HasArity, IsWellFormed, FollowsTheWays, var_at}
+use Rattle.protocols.specs.Unfolding.{Setting, asked_row, On, Follows, NamesOnly, branch_terms, HasArity, IsWellFormed, FollowsTheWays, var_at}
 use Rattle.protocols.proofs.Ways.{term_value_is, met, letter_is_way}
 
 -- ---- the equation of a dual
@@ -45,7 +45,7 @@ arity_of_end protos false proto h = h
 
 -- ---- the next end
 
-next_args : (at : Ident → ℤ) (params : List Ident) (args ts us : List Term) → length args ≡ length params → All (NamesOnly params) ts → Each (IsNormalPut (arguments params args) [] []) ts us → map (sum_of (pos 1) at) us ≡ map (sum_of (pos 1) (argument params (map (sum_of (pos 1) at) args))) ts
+next_args : (at : Ident → ℤ) (params : List Ident) (args ts us : List Term) → length args ≡ length params → All (NamesOnly params) ts → Each (IsNormalPut (put_of params args) [] []) ts us → map (sum_of (pos 1) at) us ≡ map (sum_of (pos 1) (argument params (map (sum_of (pos 1) at) args))) ts
 next_args at params args [] [] l only each = refl
 next_args at params args [] (u ∷ us) l only each = absurd each
 next_args at params args (t ∷ ts) [] l only each = absurd each
@@ -53,7 +53,7 @@ next_args at params args (t ∷ ts) (u ∷ us) l only each =
     let here : sum_of (pos 1) at u ≡ sum_of (pos 1) (argument params (map (sum_of (pos 1) at) args)) t = each.0.value (var_at at (λ i. pos 0)) ∙ term_value_is at params args t l (All-head (NamesOnly params) t ts only) in
     rw (here, next_args at params args ts us l (All-tail (NamesOnly params) t ts only) each.1) refl
 
-next_is : (at : Ident → ℤ) (params : List Ident) (args : List Term) (picked next : Ref) → length args ≡ length params → All (NamesOnly params) picked.args → IsRefLike (IsNormalPut (arguments params args)) [] [] picked next → concrete at next ≡ concrete (argument params (map (sum_of (pos 1) at) args)) picked
+next_is : (at : Ident → ℤ) (params : List Ident) (args : List Term) (picked next : Ref) → length args ≡ length params → All (NamesOnly params) picked.args → IsRefLike (IsNormalPut (put_of params args)) [] [] picked next → concrete at next ≡ concrete (argument params (map (sum_of (pos 1) at) args)) picked
 next_is at params args picked next l only like =
     rw (sym like.dual, sym like.name, next_args at params args picked.args next.args l only like.args) refl
 
@@ -63,8 +63,8 @@ each_long R [] (y ∷ ys) e = absurd e
 each_long R (x ∷ xs) [] e = absurd e
 each_long R (x ∷ xs) (y ∷ ys) e = rw (each_long R xs ys e.1) refl
 
-pub next_arity : (protos : List Proto) (params : List Ident) (args : List Term) (picked next : Ref) → IsRefLike (IsNormalPut (arguments params args)) [] [] picked next → HasArity protos picked → HasArity protos next
-next_arity protos params args picked next like h = λ proto e. each_long (IsNormalPut (arguments params args) [] []) picked.args next.args like.args ∙ h proto (rw like.name e)
+pub next_arity : (protos : List Proto) (params : List Ident) (args : List Term) (picked next : Ref) → IsRefLike (IsNormalPut (put_of params args)) [] [] picked next → HasArity protos picked → HasArity protos next
+next_arity protos params args picked next like h = λ proto e. each_long (IsNormalPut (put_of params args) [] []) picked.args next.args like.args ∙ h proto (rw like.name e)
 
 -- ---- the way that a letter picks
 
@@ -101,8 +101,8 @@ module _ (s : Setting) (values : ℕ → ℤ) (formed : IsWellFormed s) (hyps : 
       long : length ref.args ≡ length proto.params
       long = arity proto has.0
 
-      low : value_at values (asked_row s (arguments proto.params ref.args) letter left right) ≤ℤ pos 0
-      low = met s values used more (asked_row s (arguments proto.params ref.args) letter left right) formed.divisors hyps takes.1
+      low : value_at values (asked_row s (put_of proto.params ref.args) letter left right) ≤ℤ pos 0
+      low = met s values used more (asked_row s (put_of proto.params ref.args) letter left right) formed.divisors hyps takes.1
 
       way_is : letter ≡ way (argument proto.params (map (sum_of (pos 1) at) ref.args)) left right
       way_is = letter_is_way s values proto.params ref.args letter left right long (All-head (NamesOnly proto.params) left (right ∷ this.args ++ other.args) terms) (All-head (NamesOnly proto.params) right (this.args ++ other.args) (All-tail (NamesOnly proto.params) left (right ∷ this.args ++ other.args) terms)) low

@@ -1,6 +1,7 @@
 -- Ends and messages that are formed.
 use Rattle.std.proofs.Common.{◌≡◌, ℕ, ◌+◌, ◌<◌, Bool, true, false, not, List, [], ◌∷◌, ◌++◌, All, map, find, length, take, get_or, Some, option_map, refl, sym, ◌∙◌, ap, subst, arith}
 use Rattle.std.proofs.lemmas.List.{take_more, map-append, length-map, length-take-le}
+use Rattle.linear_forms.specs.Terms.{put_of}
 use denote.Hole.Carrier.{hidden}
 use Rattle.core_language.specs.Names.{Ident, same}
 use mathlib.Core.Bool.{beq}
@@ -17,10 +18,9 @@ use Rattle.chan_syntax.specs.declared.resources.Shape.TheVariants as s
 use Rattle.chan_syntax.specs.declared.resources.Shape.TheBlock.{hidden-the_row-Res-0}
 use Rattle.outline_rules.specs.Naming.{int_var_of}
 use Rattle.outline_rules.specs.declared.naming.IntVar.{IntVar}
-use Rattle.substitution.specs.Scopes.{put_of}
 use Rattle.protocols.specs.Duals.{Direction, Message, message_of, turned_if}
 use Rattle.protocols.specs.Heads.{proto_named, equation_of_end}
-use Rattle.protocols.specs.Unfolding.{arguments, HasArity, HasFormed, IsMessageTooLarge}
+use Rattle.protocols.specs.Unfolding.{HasArity, HasFormed, IsMessageTooLarge}
 
 pub pair_of : (a b : Res) → shape_of (s.Pair a b) ≡ resource.Pair (res_of a) (res_of b)
 unfolding hidden hidden-the_row-Res-0
@@ -36,23 +36,17 @@ found_named (p ∷ ps) x = pick (same p.name x) refl (found_named ps x)
 
 -- ---- arguments
 
--- what is put in are the arguments
-pub put_is : (xs : List Ident) (ts : List Term) → put_of xs ts ≡ arguments xs (map term_of ts)
-put_is [] ts = refl
-put_is (x ∷ xs) [] = refl
-put_is (x ∷ xs) (t ∷ ts) = ap (λ l. record { name = x; term = term_of t } ∷ l) (put_is xs ts)
-
-arguments_joined : (xs : List Ident) (ts : List Term) (x : Ident) (t : Term) → length xs ≡ length ts → arguments (xs ++ x ∷ []) (map term_of (ts ++ t ∷ [])) ≡ arguments xs (map term_of ts) ++ record { name = x; term = term_of t } ∷ []
+arguments_joined : (xs : List Ident) (ts : List Term) (x : Ident) (t : Term) → length xs ≡ length ts → put_of (xs ++ x ∷ []) (map term_of (ts ++ t ∷ [])) ≡ put_of xs (map term_of ts) ++ record { name = x; term = term_of t } ∷ []
 arguments_joined [] [] x t e = refl
 arguments_joined [] (u ∷ us) x t e = absurd (omega arith)
 arguments_joined (y ∷ ys) [] x t e = absurd (omega arith)
 arguments_joined (y ∷ ys) (u ∷ us) x t e = ap (λ l. record { name = y; term = term_of u } ∷ l) (arguments_joined ys us x t (omega arith))
 
-arguments_more : (xs : List Ident) (ts : List Term) (i : ℕ) (x : Ident) (t : Term) → i < length xs → i < length ts → arguments (take (i + 1) xs) (map term_of (take (i + 1) ts)) ≡ arguments (take i xs) (map term_of (take i ts)) ++ record { name = get_or xs i x; term = term_of (get_or ts i t) } ∷ []
+arguments_more : (xs : List Ident) (ts : List Term) (i : ℕ) (x : Ident) (t : Term) → i < length xs → i < length ts → put_of (take (i + 1) xs) (map term_of (take (i + 1) ts)) ≡ put_of (take i xs) (map term_of (take i ts)) ++ record { name = get_or xs i x; term = term_of (get_or ts i t) } ∷ []
 arguments_more xs ts i x t h k =
     rw (take_more xs i x h, take_more ts i t k) (arguments_joined (take i xs) (take i ts) (get_or xs i x) (get_or ts i t) (omega (arith, length-take-le i xs (omega arith), length-take-le i ts (omega arith))))
 
-pub arguments_step : (xs : List Ident) (ts : List Term) (i : ℕ) (x : Ident) (t : Term) (vars more : List IntVar) (v : IntVar) → i < length xs → i < length ts → get_or xs i x ≡ x → get_or ts i t ≡ t → more ≡ vars ++ v ∷ [] → v.name ≡ x → v.term ≡ t → map int_var_of vars ≡ arguments (take i xs) (map term_of (take i ts)) → map int_var_of more ≡ arguments (take (i + 1) xs) (map term_of (take (i + 1) ts))
+pub arguments_step : (xs : List Ident) (ts : List Term) (i : ℕ) (x : Ident) (t : Term) (vars more : List IntVar) (v : IntVar) → i < length xs → i < length ts → get_or xs i x ≡ x → get_or ts i t ≡ t → more ≡ vars ++ v ∷ [] → v.name ≡ x → v.term ≡ t → map int_var_of vars ≡ put_of (take i xs) (map term_of (take i ts)) → map int_var_of more ≡ put_of (take (i + 1) xs) (map term_of (take (i + 1) ts))
 arguments_step xs ts i x t vars more v h k e f m n o inv =
     rw (m, map-append int_var_of vars (v ∷ []), inv, n, o) (sym (arguments_more xs ts i x t h k ∙ rw (e, f) refl))
 
@@ -68,21 +62,19 @@ next_like put false picked next dual name args = record { dual = sym dual; name 
 
 -- ---- the message
 
-pub message_formed : (protos : List resource.Proto) (ref : resource.Ref) (proto : resource.Proto) (equation : resource.Equation) (message : Message) (direction : Direction) (res : resource.Res) → proto_named ref.name protos ≡ Some proto → equation ≡ equation_of_end ref.dual proto → message_of equation ≡ Some message → direction ≡ message.direction → IsSubst (arguments proto.params ref.args) message.res res → HasFormed protos ref direction res
+pub message_formed : (protos : List resource.Proto) (ref : resource.Ref) (proto : resource.Proto) (equation : resource.Equation) (message : Message) (direction : Direction) (res : resource.Res) → proto_named ref.name protos ≡ Some proto → equation ≡ equation_of_end ref.dual proto → message_of equation ≡ Some message → direction ≡ message.direction → IsSubst (put_of proto.params ref.args) message.res res → HasFormed protos ref direction res
 message_formed protos ref proto equation message direction res named is has same put =
-    (message, arguments proto.params ref.args, (proto, equation, (named, sym is), has, refl), same, put)
+    (message, put_of proto.params ref.args, (proto, equation, (named, sym is), has, refl), same, put)
 
-pub message_too_large : (protos : List resource.Proto) (ref : resource.Ref) (proto : resource.Proto) (equation : resource.Equation) (message : Message) → proto_named ref.name protos ≡ Some proto → equation ≡ equation_of_end ref.dual proto → message_of equation ≡ Some message → (AllFit (arguments proto.params ref.args) (terms_of_res [] message.res) → ⊥) → IsMessageTooLarge protos ref
+pub message_too_large : (protos : List resource.Proto) (ref : resource.Ref) (proto : resource.Proto) (equation : resource.Equation) (message : Message) → proto_named ref.name protos ≡ Some proto → equation ≡ equation_of_end ref.dual proto → message_of equation ≡ Some message → (AllFit (put_of proto.params ref.args) (terms_of_res [] message.res) → ⊥) → IsMessageTooLarge protos ref
 message_too_large protos ref proto equation message named is has not_fit =
-    (message, arguments proto.params ref.args, (proto, equation, (named, sym is), has, refl), not_fit)
+    (message, put_of proto.params ref.args, (proto, equation, (named, sym is), has, refl), not_fit)
 
-pub message_put : (params : List Ident) (args : List Term) (message res put : resource.Res) → message ≡ res → IsSubst (put_of params args) res put → IsSubst (arguments params (map term_of args)) message put
-message_put params args message res put e h =
-    subst (λ (r : resource.Res). IsSubst (arguments params (map term_of args)) r put) (sym e) (subst (λ (by : List linear.IntVar). IsSubst by res put) (put_is params args) h)
+pub message_put : (put : List linear.IntVar) (message res other : resource.Res) → message ≡ res → IsSubst put res other → IsSubst put message other
+message_put put message res other e h = subst (λ (r : resource.Res). IsSubst put r other) (sym e) h
 
-pub message_not_fit : (params : List Ident) (args : List Term) (message res : resource.Res) → message ≡ res → (AllFit (put_of params args) (terms_of_res [] res) → ⊥) → AllFit (arguments params (map term_of args)) (terms_of_res [] message) → ⊥
-message_not_fit params args message res e none fit =
-    none (subst (λ (r : resource.Res). AllFit (put_of params args) (terms_of_res [] r)) e (subst (λ (by : List linear.IntVar). AllFit by (terms_of_res [] message)) (sym (put_is params args)) fit))
+pub message_not_fit : (put : List linear.IntVar) (message res : resource.Res) → message ≡ res → (AllFit put (terms_of_res [] res) → ⊥) → AllFit put (terms_of_res [] message) → ⊥
+message_not_fit put message res e none fit = none (subst (λ (r : resource.Res). AllFit put (terms_of_res [] r)) e fit)
 
 -- the mark of the next end
 pub turned_dual : (d : Bool) (r : resource.Ref) → not (beq r.dual d) ≡ (turned_if d r).dual
@@ -96,9 +88,3 @@ turned_dual false r = pick r.dual
     pick : (b : Bool) → not (beq b false) ≡ b
     pick true = refl
     pick false = refl
-
-pub args_put : (params : List Ident) (args : List Term) (ts us : List sum.Term) → Each (IsNormalPut (put_of params args) [] []) ts us → Each (IsNormalPut (arguments params (map term_of args)) [] []) ts us
-args_put params args ts us h = subst (λ (by : List linear.IntVar). Each (IsNormalPut by [] []) ts us) (put_is params args) h
-
-pub args_not_fit : (params : List Ident) (args : List Term) (ts : List sum.Term) → (All (Fits (put_of params args) []) ts → ⊥) → All (Fits (arguments params (map term_of args)) []) ts → ⊥
-args_not_fit params args ts none fit = none (subst (λ (by : List linear.IntVar). All (Fits by []) ts) (sym (put_is params args)) fit)

@@ -12,7 +12,7 @@ use Rattle.farkas_check.specs.declared.cert.Row.{Row}
 use Rattle.farkas_check.specs.declared.cert.CertFault.{CertFault}
 use Rattle.farkas_check.specs.Certificates.{faults, verdict}
 use Rattle.farkas_check.specs.Rows.{IsNarrow}
-use Rattle.linear_forms.specs.Terms.{IntVar, coefficient_of}
+use Rattle.linear_forms.specs.Terms.{IntVar, coefficient_of, put_of}
 use Rattle.linear_forms.specs.Substitution.{Fits, IsNormalPut, IsRefLike}
 use Rattle.chan_syntax.specs.Reading.{letter_of}
 use Rattle.chan_syntax.specs.declared.operands.Letter as written
@@ -20,7 +20,7 @@ use Rattle.substitution.specs.declared.faults.SubstFault.{SubstFault}
 use Rattle.substitution.specs.declared.faults.SubstFault.TheVariants as cause
 use Rattle.protocols.specs.Duals.{dual_ref, dual_equation, turned_if, branches_of}
 use Rattle.protocols.specs.Heads.{proto_named, equation_of_end, on_way}
-use Rattle.protocols.specs.Unfolding.{Setting, Fault, arguments, asked_term, asked_row, asks_nothing, mention_for, taken, shown, obligation, IsFormed, Outcome, On, Stop, Steps, Follows, HasEquationAt, HasArity, AreFormed, picked, picked_at, goes_on, has_form, branch_terms, NamesOnly, Found, HasFormed, IsMessageTooLarge, Unfolds}
+use Rattle.protocols.specs.Unfolding.{Setting, Fault, asked_term, asked_row, asks_nothing, mention_for, taken, shown, obligation, IsFormed, Outcome, On, Stop, Steps, Follows, HasEquationAt, HasArity, AreFormed, picked, picked_at, goes_on, has_form, branch_terms, NamesOnly, Found, HasFormed, IsMessageTooLarge, Unfolds}
 use Rattle.protocols.specs.Unfolding as spec
 use Rattle.protocols.specs.FaultsOf.{IsFault, fault_of}
 use Rattle.protocols.specs.declared.faults.UnfoldFault.{UnfoldFault}
@@ -82,27 +82,27 @@ module _ (s : Setting) (used : ℕ) (ref : Ref) (proto : Proto) (letter : Letter
   has : HasEquationAt s.protos ref proto (Branch left right (turned_if ref.dual this) (turned_if ref.dual other))
   has = (named, branch_of_end ref.dual proto left right this other is)
 
-  pub stepped : (picked next : Ref) (more : ℕ) → IsFormed s (arguments proto.params ref.args) letter left right → obligation s used (asked_row s (arguments proto.params ref.args) letter left right) ≡ Ok more → picked ≡ on_way letter this other → IsRefLike (IsNormalPut (arguments proto.params ref.args)) [] [] (turned_if ref.dual picked) next → Steps s used ref letter (On next more)
+  pub stepped : (picked next : Ref) (more : ℕ) → IsFormed s (put_of proto.params ref.args) letter left right → obligation s used (asked_row s (put_of proto.params ref.args) letter left right) ≡ Ok more → picked ≡ on_way letter this other → IsRefLike (IsNormalPut (put_of proto.params ref.args)) [] [] (turned_if ref.dual picked) next → Steps s used ref letter (On next more)
   stepped picked next more formed met way like =
       let same : turned_if ref.dual picked ≡ on_way letter (turned_if ref.dual this) (turned_if ref.dual other) = ap (turned_if ref.dual) way ∙ sym (on_way_turned ref.dual letter this other) in
-      (proto, left, right, turned_if ref.dual this, turned_if ref.dual other, has, (formed, met, subst (λ (r : Ref). IsRefLike (IsNormalPut (arguments proto.params ref.args)) [] [] r next) same like))
+      (proto, left, right, turned_if ref.dual this, turned_if ref.dual other, has, (formed, met, subst (λ (r : Ref). IsRefLike (IsNormalPut (put_of proto.params ref.args)) [] [] r next) same like))
 
-  pub row_too_large : (IsFormed s (arguments proto.params ref.args) letter left right → ⊥) → Steps s used ref letter (Stop spec.TooLarge)
+  pub row_too_large : (IsFormed s (put_of proto.params ref.args) letter left right → ⊥) → Steps s used ref letter (Stop spec.TooLarge)
   row_too_large none = (proto, left, right, turned_if ref.dual this, turned_if ref.dual other, has, inl none)
 
-  pub not_met : (fault : Fault) → IsFormed s (arguments proto.params ref.args) letter left right → obligation s used (asked_row s (arguments proto.params ref.args) letter left right) ≡ Err fault → Steps s used ref letter (Stop fault)
-  not_met fault formed e = by fault (obligation_other s used (asked_row s (arguments proto.params ref.args) letter left right) fault e) e
+  pub not_met : (fault : Fault) → IsFormed s (put_of proto.params ref.args) letter left right → obligation s used (asked_row s (put_of proto.params ref.args) letter left right) ≡ Err fault → Steps s used ref letter (Stop fault)
+  not_met fault formed e = by fault (obligation_other s used (asked_row s (put_of proto.params ref.args) letter left right) fault e) e
     where
-      by : (fault : Fault) → IsOther fault → obligation s used (asked_row s (arguments proto.params ref.args) letter left right) ≡ Err fault → Steps s used ref letter (Stop fault)
+      by : (fault : Fault) → IsOther fault → obligation s used (asked_row s (put_of proto.params ref.args) letter left right) ≡ Err fault → Steps s used ref letter (Stop fault)
       by spec.WrongForm o f = absurd o
       by spec.CertCount o f = (proto, left, right, turned_if ref.dual this, turned_if ref.dual other, has, (formed, f))
       by (spec.BranchNotProved n c) o f = (proto, left, right, turned_if ref.dual this, turned_if ref.dual other, has, (formed, f))
       by spec.TooLarge o f = absurd o
 
-  pub end_too_large : (more : ℕ) → IsFormed s (arguments proto.params ref.args) letter left right → obligation s used (asked_row s (arguments proto.params ref.args) letter left right) ≡ Ok more → (All (Fits (arguments proto.params ref.args) []) (on_way letter this other).args → ⊥) → Steps s used ref letter (Stop spec.TooLarge)
+  pub end_too_large : (more : ℕ) → IsFormed s (put_of proto.params ref.args) letter left right → obligation s used (asked_row s (put_of proto.params ref.args) letter left right) ≡ Ok more → (All (Fits (put_of proto.params ref.args) []) (on_way letter this other).args → ⊥) → Steps s used ref letter (Stop spec.TooLarge)
   end_too_large more formed met none =
       let same : (on_way letter (turned_if ref.dual this) (turned_if ref.dual other)).args ≡ (on_way letter this other).args = ap (λ (r : Ref). r.args) (on_way_turned ref.dual letter this other) ∙ args_turned ref.dual (on_way letter this other) in
-      (proto, left, right, turned_if ref.dual this, turned_if ref.dual other, has, inr (formed, (more, met), λ fit. none (subst (λ (ts : List Term). All (Fits (arguments proto.params ref.args) []) ts) same fit)))
+      (proto, left, right, turned_if ref.dual this, turned_if ref.dual other, has, inr (formed, (more, met), λ fit. none (subst (λ (ts : List Term). All (Fits (put_of proto.params ref.args) []) ts) same fit)))
 
 -- the next end has as many arguments as its protocol has parameters
 pub step_arity : (s : Setting) (used more : ℕ) (ref next : Ref) (letter : Letter) → AreFormed s.protos → Steps s used ref letter (On next more) → HasArity s.protos next
@@ -175,7 +175,7 @@ stops_at_end protos path i name h k e = subst (λ (l : List written.Letter). has
 -- ---- the whole
 
 step_other : (s : Setting) (used : ℕ) (ref : Ref) (letter : Letter) → Steps s used ref letter (Stop spec.WrongForm) → ⊥
-step_other s used ref letter (proto, left, right, this, other, equation, takes) = obligation_other s used (asked_row s (arguments proto.params ref.args) letter left right) spec.WrongForm takes.1
+step_other s used ref letter (proto, left, right, this, other, equation, takes) = obligation_other s used (asked_row s (put_of proto.params ref.args) letter left right) spec.WrongForm takes.1
 
 follows_other : (s : Setting) (used : ℕ) (ref : Ref) (letters : List Letter) → Follows s used ref letters (Stop spec.WrongForm) → ⊥
 follows_other s used ref [] e = absurd cc

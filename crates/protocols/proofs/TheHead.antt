@@ -7,12 +7,12 @@ use Rattle.core_language.specs.Terms.{Term, Limit}
 use Rattle.core_language.specs.Resources.{Ref, Shape, Res, Resources, Equation, Proto}
 use Rattle.core_language.specs.Resources as resource
 use Rattle.core_language.specs.Operands.{Letter}
-use Rattle.linear_forms.specs.Terms.{IntVar, sum_of, named, by_place}
+use Rattle.linear_forms.specs.Terms.{IntVar, sum_of, named, by_place, put_of}
 use Rattle.linear_forms.specs.Substitution.{place_of, at_place, Scoped, scoped, terms_of_limit, terms_of_shape, terms_of_res, terms_of_resources, Each, OnNames, OnTerms, AnyNames, IsLimitLike, IsShapeLike, IsResLike, AreResourcesLike, IsRenamed, IsNormalPut}
 use Rattle.linear_forms.proofs.Shorts.{all_left, all_right}
 use Rattle.protocols.specs.Duals.{Message, message_of, turned}
 use Rattle.protocols.specs.Heads.{Head, argument, equation_of_end}
-use Rattle.protocols.specs.Unfolding.{Setting, arguments, On, Follows, NamesUnder, message_terms, HasArity, AreFormed, var_at, HaveOneValue, FindsTheHead}
+use Rattle.protocols.specs.Unfolding.{Setting, On, Follows, NamesUnder, message_terms, HasArity, AreFormed, var_at, HaveOneValue, FindsTheHead}
 use Rattle.protocols.proofs.Turned.{same_message}
 use Rattle.protocols.proofs.Ways.{argument_value, sum_only}
 use Rattle.protocols.proofs.Followed.{follows_the_ways}
@@ -110,17 +110,17 @@ unbound (y ∷ ys) params x n m = pick (same y x) refl (unbound ys params x)
         again (lower (place_of ys x) none) rest
 
 -- a term of a message has one value, by the arguments or by what the parameters have
-put_value : (at : Ident → ℤ) (params : List Ident) (args : List Term) (before after : List Ident) (t u : Term) → length args ≡ length params → NamesUnder params (record { binders = before; term = t }) → IsNormalPut (arguments params args) before after t u → HaveOneValue (argument params (map (sum_of (pos 1) at) args)) at before after t u
+put_value : (at : Ident → ℤ) (params : List Ident) (args : List Term) (before after : List Ident) (t u : Term) → length args ≡ length params → NamesUnder params (record { binders = before; term = t }) → IsNormalPut (put_of params args) before after t u → HaveOneValue (argument params (map (sum_of (pos 1) at) args)) at before after t u
 put_value at params args before after t u l only put inside =
-    sym (put.value (var_at at inside) ∙ sum_only (pos 1) (λ x. at_place (var_at at inside) (named (arguments params args) (pos 1) at x) (place_of before x)) (λ x. at_place (var_at free inside) (free x) (place_of before x)) (λ x. list_any (λ p. same p x) (before ++ params) ≡ true) t only one)
+    sym (put.value (var_at at inside) ∙ sum_only (pos 1) (λ x. at_place (var_at at inside) (named (put_of params args) (pos 1) at x) (place_of before x)) (λ x. at_place (var_at free inside) (free x) (place_of before x)) (λ x. list_any (λ p. same p x) (before ++ params) ≡ true) t only one)
   where
     free : Ident → ℤ
     free = argument params (map (sum_of (pos 1) at) args)
 
-    one : (x : Ident) → list_any (λ p. same p x) (before ++ params) ≡ true → at_place (var_at at inside) (named (arguments params args) (pos 1) at x) (place_of before x) ≡ at_place (var_at free inside) (free x) (place_of before x)
+    one : (x : Ident) → list_any (λ p. same p x) (before ++ params) ≡ true → at_place (var_at at inside) (named (put_of params args) (pos 1) at x) (place_of before x) ≡ at_place (var_at free inside) (free x) (place_of before x)
     one x m = pick (place_of before x) refl
       where
-        pick : (o : Option ℕ) → place_of before x ≡ o → at_place (var_at at inside) (named (arguments params args) (pos 1) at x) o ≡ at_place (var_at free inside) (free x) o
+        pick : (o : Option ℕ) → place_of before x ≡ o → at_place (var_at at inside) (named (put_of params args) (pos 1) at x) o ≡ at_place (var_at free inside) (free x) o
         pick None e = argument_value at params args x l (unbound before params x e m)
         pick (Some i) e = refl
 

@@ -16,21 +16,21 @@ use Rattle.farkas_check.specs.Certificates.{faults, verdict}
 use Rattle.farkas_check.proofs.Forms.{entailed}
 use Rattle.farkas_check.proofs.Validity.{valid-ok}
 use Rattle.farkas_check.proofs.Products.{neg_times}
-use Rattle.linear_forms.specs.Terms.{times_of, counted, sum_of, named, by_place}
+use Rattle.linear_forms.specs.Terms.{times_of, counted, sum_of, named, by_place, put_of, negated, less, one}
 use Rattle.linear_forms.specs.Normal.{names_of}
 use Rattle.linear_forms.proofs.Linear.{normal_value}
-use Rattle.linear_forms.proofs.Counts.{sum-append}
+use Rattle.linear_forms.proofs.Counts.{sum-less}
 use Rattle.linear_forms.proofs.Shorts.{all_left, all_right}
 use Rattle.protocols.specs.Heads.{argument, way}
-use Rattle.protocols.specs.Unfolding.{Setting, arguments, turned_part, less, one, asked_row, asks_nothing, mention_for, taken, shown, obligation, NamesOnly}
+use Rattle.protocols.specs.Unfolding.{Setting, asked_row, asks_nothing, mention_for, taken, shown, obligation, NamesOnly}
 
 -- what a parameter has is the value of its argument
-pub argument_value : (at : Ident → ℤ) (params : List Ident) (ts : List Term) (x : Ident) → length ts ≡ length params → list_any (λ p. same p x) params ≡ true → named (arguments params ts) (pos 1) at x ≡ argument params (map (sum_of (pos 1) at) ts) x
+pub argument_value : (at : Ident → ℤ) (params : List Ident) (ts : List Term) (x : Ident) → length ts ≡ length params → list_any (λ p. same p x) params ≡ true → named (put_of params ts) (pos 1) at x ≡ argument params (map (sum_of (pos 1) at) ts) x
 argument_value at [] ts x l m = absurd (false≢true m)
 argument_value at (p ∷ ps) [] x l m = absurd (omega (arith, l))
 argument_value at (p ∷ ps) (t ∷ ts) x l m = pick (same p x) refl (λ k. argument_value at ps ts x (omega (arith, l)) k)
   where
-    pick : (b : Bool) → same p x ≡ b → (list_any (λ q. same q x) ps ≡ true → named (arguments ps ts) (pos 1) at x ≡ argument ps (map (sum_of (pos 1) at) ts) x) → named (arguments (p ∷ ps) (t ∷ ts)) (pos 1) at x ≡ argument (p ∷ ps) (map (sum_of (pos 1) at) (t ∷ ts)) x
+    pick : (b : Bool) → same p x ≡ b → (list_any (λ q. same q x) ps ≡ true → named (put_of ps ts) (pos 1) at x ≡ argument ps (map (sum_of (pos 1) at) ts) x) → named (put_of (p ∷ ps) (t ∷ ts)) (pos 1) at x ≡ argument (p ∷ ps) (map (sum_of (pos 1) at) (t ∷ ts)) x
     pick true q again = rw q refl
     pick false q again = let later : list_any (λ q. same q x) ps ≡ true = rw q at m in rw q (again later)
 
@@ -43,24 +43,10 @@ sum_only u f g P (p ∷ ps) h k = rw (here p.name (all_left P (option_to_list p.
     here (Some x) a = k x (All-head P x [] a)
 
 -- a term of an equation has one value, by the arguments or by what the parameters have
-pub term_value_is : (at : Ident → ℤ) (params : List Ident) (ts : List Term) (t : Term) → length ts ≡ length params → NamesOnly params t → sum_of (pos 1) (named (arguments params ts) (pos 1) at) t ≡ sum_of (pos 1) (argument params (map (sum_of (pos 1) at) ts)) t
-term_value_is at params ts t l only = sum_only (pos 1) (named (arguments params ts) (pos 1) at) (argument params (map (sum_of (pos 1) at) ts)) (λ x. list_any (λ p. same p x) params ≡ true) t only (λ x m. argument_value at params ts x l m)
+pub term_value_is : (at : Ident → ℤ) (params : List Ident) (ts : List Term) (t : Term) → length ts ≡ length params → NamesOnly params t → sum_of (pos 1) (named (put_of params ts) (pos 1) at) t ≡ sum_of (pos 1) (argument params (map (sum_of (pos 1) at) ts)) t
+term_value_is at params ts t l only = sum_only (pos 1) (named (put_of params ts) (pos 1) at) (argument params (map (sum_of (pos 1) at) ts)) (λ x. list_any (λ p. same p x) params ≡ true) t only (λ x m. argument_value at params ts x l m)
 
 -- ---- rows
-
-turned_once : (p : Part) (c : ℤ) → times_of (turned_part p) *ℤ c ≡ neg_ℤ (times_of p *ℤ c)
-turned_once p c = pick p.negative refl
-  where
-    pick : (b : Bool) → p.negative ≡ b → times_of (turned_part p) *ℤ c ≡ neg_ℤ (times_of p *ℤ c)
-    pick true e = rw e (omega (arith, ints, neg_times p.factor c))
-    pick false e = rw e (neg_times p.factor c)
-
-sum_turned : (u : ℤ) (f : Ident → ℤ) (t : Term) → sum_of u f (map turned_part t) ≡ neg_ℤ (sum_of u f t)
-sum_turned u f [] = refl
-sum_turned u f (p ∷ ps) = omega (arith, ints, turned_once p (counted u f p.name), sum_turned u f ps)
-
-sum_less : (f : Ident → ℤ) (t v : Term) → sum_of (pos 1) f (less t v) ≡ sum_of (pos 1) f t -ℤ sum_of (pos 1) f v
-sum_less f t v = omega (arith, ints, sum-append (pos 1) f t (map turned_part v), sum_turned (pos 1) f v)
 
 no_coefficient : (values : ℕ → ℤ) (cs : List ℤ) → list_all (λ c. int_eq c (pos 0)) cs ≡ true → linear_part values cs ≡ pos 0
 no_coefficient values [] h = refl
@@ -104,14 +90,14 @@ met s values used more row divisors hyps h = pick (asks_nothing row) refl
 -- ---- the way
 
 -- the letter whose row is at most 0 is the way that the `if` goes
-pub letter_is_way : (s : Setting) (values : ℕ → ℤ) (params : List Ident) (ts : List Term) (letter : Letter) (left right : Term) → length ts ≡ length params → NamesOnly params left → NamesOnly params right → value_at values (asked_row s (arguments params ts) letter left right) ≤ℤ pos 0 → letter ≡ way (argument params (map (sum_of (pos 1) (by_place s.ints values)) ts)) left right
+pub letter_is_way : (s : Setting) (values : ℕ → ℤ) (params : List Ident) (ts : List Term) (letter : Letter) (left right : Term) → length ts ≡ length params → NamesOnly params left → NamesOnly params right → value_at values (asked_row s (put_of params ts) letter left right) ≤ℤ pos 0 → letter ≡ way (argument params (map (sum_of (pos 1) (by_place s.ints values)) ts)) left right
 letter_is_way s values params ts letter left right l only_left only_right h = by letter h
   where
     at : Ident → ℤ
     at = by_place s.ints values
 
     f : Ident → ℤ
-    f = named (arguments params ts) (pos 1) at
+    f = named (put_of params ts) (pos 1) at
 
     g : Ident → ℤ
     g = argument params (map (sum_of (pos 1) at) ts)
@@ -122,14 +108,14 @@ letter_is_way s values params ts letter left right l only_left only_right h = by
     right_is : sum_of (pos 1) f right ≡ sum_of (pos 1) g right
     right_is = term_value_is at params ts right l only_right
 
-    by : (letter : Letter) → value_at values (asked_row s (arguments params ts) letter left right) ≤ℤ pos 0 → letter ≡ way g left right
+    by : (letter : Letter) → value_at values (asked_row s (put_of params ts) letter left right) ≤ℤ pos 0 → letter ≡ way g left right
     by First a =
-        let value = normal_value (record { ints = s.ints; vars = arguments params ts }) (less left right) values in
-        let low : sum_of (pos 1) g left ≤ℤ sum_of (pos 1) g right = omega (arith, ints, a, value, sum_less f left right, left_is, right_is) in
+        let value = normal_value (record { ints = s.ints; vars = put_of params ts }) (less left right) values in
+        let low : sum_of (pos 1) g left ≤ℤ sum_of (pos 1) g right = omega (arith, ints, a, value, sum-less (pos 1) f left right, left_is, right_is) in
         let test : int_le (sum_of (pos 1) g left) (sum_of (pos 1) g right) ≡ true = grind (arith, ints) in
         rw test refl
     by Second a =
-        let value = normal_value (record { ints = s.ints; vars = arguments params ts }) (one ∷ less right left) values in
-        let high : sum_of (pos 1) g right <ℤ sum_of (pos 1) g left = omega (arith, ints, a, value, sum_less f right left, left_is, right_is) in
+        let value = normal_value (record { ints = s.ints; vars = put_of params ts }) (one ∷ less right left) values in
+        let high : sum_of (pos 1) g right <ℤ sum_of (pos 1) g left = omega (arith, ints, a, value, sum-less (pos 1) f right left, left_is, right_is) in
         let test : int_le (sum_of (pos 1) g left) (sum_of (pos 1) g right) ≡ false = grind (arith, ints) in
         rw test refl

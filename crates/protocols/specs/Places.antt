@@ -2,6 +2,7 @@
 use Rattle.std.specs.Prelude.{◌≡◌, not, if◌then◌else◌, List, [], ◌∷◌, ◌++◌, map, find, Option, Some, None}
 use Rattle.std.specs.Option.{option_map}
 use Rattle.core_language.specs.Names.{Ident, same}
+use Rattle.linear_forms.specs.Terms.{put_of}
 use Rattle.linear_forms.specs.Substitution.{IsNormalPut, IsRefLike}
 use Rattle.chan_syntax.specs.Reading.{term_of, ref_of}
 use Rattle.chan_syntax.specs.declared.operands.Letter.{Letter}
@@ -14,7 +15,6 @@ use Rattle.chan_syntax.specs.declared.resources.Equation.TheVariants as equation
 use Rattle.chan_syntax.specs.declared.resources.Proto.{Proto}
 use Rattle.substitution.specs.Places.{Piece, Binders, ArePlaced, pieces_of_bound, pieces_of_ref, pieces_of_shape, pieces_of_res}
 use Rattle.protocols.specs.Duals.{turned_if}
-use Rattle.protocols.specs.Unfolding.{arguments}
 use Rattle.protocols.specs.declared.messages.Head.{Head}
 use Rattle.protocols.specs.declared.messages.Head.TheVariants as head
 
@@ -77,7 +77,7 @@ picked_of letter _ = None
 abbrev pub LeadsTo : List Proto → Letter → Ref → Ref → Type 0
 LeadsTo protos letter end next =
     (proto : Proto) × (picked : Ref) × (first_named protos end.name ≡ Some proto) × (picked_of letter proto.equation ≡ Some picked)
-    × IsRefLike (IsNormalPut (arguments proto.params (map term_of end.args))) [] [] (turned_if end.dual (ref_of picked)) (ref_of next)
+    × IsRefLike (IsNormalPut (put_of proto.params (map term_of end.args))) [] [] (turned_if end.dual (ref_of picked)) (ref_of next)
     × ArePlaced proto.params end.args (pieces_of_ref [] picked) (pieces_of_ref [] next)
 
 -- letters, one after the other

@@ -12,7 +12,7 @@ use Rattle.farkas_check.specs.declared.cert.Mention.{Mention}
 use Rattle.farkas_check.specs.declared.cert.CertFault.{CertFault}
 use Rattle.farkas_check.specs.Certificates.{faults, verdict}
 use Rattle.farkas_check.specs.Rows.{value_at}
-use Rattle.linear_forms.specs.Terms.{IntVar, by_place, normal_form}
+use Rattle.linear_forms.specs.Terms.{IntVar, by_place, normal_form, less, one, put_of}
 use Rattle.linear_forms.specs.Normal.{row_fits, names_of}
 use Rattle.linear_forms.specs.Substitution.{Var, Free, Inside, sum_under, Scoped, Fits, AnyNames, OnTerms, IsNormalPut, IsRefLike, IsResLike, IsSubst, AllFit, terms_of_res}
 use Rattle.protocols.specs.Duals.{Message, Direction, message_of, branches_of}
@@ -61,21 +61,6 @@ pub record Setting : Type 0 where
   pub ints : List Ident
   pub hyps : List Row
   pub certs : List Cert
-
--- each parameter with the argument at its place
-abbrev pub arguments : List Ident → List Term → List IntVar
-arguments [] ts = []
-arguments (x ∷ xs) [] = []
-arguments (x ∷ xs) (t ∷ ts) = record { name = x; term = t } ∷ arguments xs ts
-
-abbrev pub turned_part : Part → Part
-turned_part p = record { negative = not p.negative; factor = p.factor; name = p.name }
-
-abbrev pub less : Term → Term → Term
-less t u = t ++ map turned_part u
-
-abbrev pub one : Part
-one = record { negative = false; factor = pos 1; name = None }
 
 -- what a letter asks to be at most 0: the left term is at most the right one, or greater
 abbrev pub asked_term : Letter → Term → Term → Term
@@ -135,7 +120,7 @@ HasEquationAt protos ref proto equation = (proto_named ref.name protos ≡ Some 
 abbrev pub Steps : Setting → ℕ → Ref → Letter → Outcome → Type 0
 Steps s used ref letter outcome =
     (proto : Proto) × (left right : Term) × (this other : Ref) × HasEquationAt s.protos ref proto (Branch left right this other)
-    × Takes s used (arguments proto.params ref.args) letter left right (on_way letter this other) outcome
+    × Takes s used (put_of proto.params ref.args) letter left right (on_way letter this other) outcome
 
 -- what comes of the letters, one after the other
 abbrev pub Follows : Setting → ℕ → Ref → List Letter → Outcome → Type 0
@@ -149,7 +134,7 @@ Follows s used ref (letter ∷ letters) outcome =
 -- the message of the end, and the terms for its names
 abbrev pub HasMessage : List Proto → Ref → Message → List IntVar → Type 0
 HasMessage protos ref message put =
-    (proto : Proto) × (equation : Equation) × HasEquationAt protos ref proto equation × (message_of equation ≡ Some message) × (put ≡ arguments proto.params ref.args)
+    (proto : Proto) × (equation : Equation) × HasEquationAt protos ref proto equation × (message_of equation ≡ Some message) × (put ≡ put_of proto.params ref.args)
 
 -- the message of the end with the terms put in, and its direction
 abbrev pub HasFormed : List Proto → Ref → Direction → Res → Type 0

@@ -3,6 +3,7 @@ ghost use Rattle.std.specs.Prelude.{◌≡◌, ◌++◌, ◌∷◌, [], suc, pos
 ghost use Rattle.std.specs.List.{list_all};
 ghost use Rattle.std.specs.Ordering.{int_eq};
 ghost use Rattle.farkas_check.specs.Rows.{IsNarrow};
+ghost use Rattle.linear_forms.specs.Terms.{negated, put_of, less, one};
 ghost use Rattle.linear_forms.specs.Normal.{row_fits};
 ghost use Rattle.linear_forms.specs.Substitution.{Fits};
 ghost use Rattle.chan_syntax.specs.Bounds.{IsBounded};
@@ -10,7 +11,7 @@ ghost use Rattle.chan_syntax.specs.Reading.{part_of, term_of, letter_of, cert_of
 ghost use Rattle.outline_rules.specs.Naming.{int_var_of};
 ghost use Rattle.substitution.specs.declared.faults.SubstFault.TheVariants as cause;
 ghost use Rattle.protocols.specs.Unfolding as spec;
-ghost use Rattle.protocols.specs.Unfolding.{turned_part, NamesOnly, IsFormed};
+ghost use Rattle.protocols.specs.Unfolding.{NamesOnly, IsFormed};
 ghost use Rattle.protocols.specs.FaultsOf.{IsFault};
 ghost use Rattle.protocols.specs.Settings.{setting_of, IsReady};
 
@@ -37,7 +38,7 @@ pub(crate) struct Setting<'a> {
 /// The parameters, each with the argument at its place.
 fn arguments(alloc: Global, params: &Idents, args: &Terms) -> Result<IntVars, Memory>
     requires { length args.now ≡ length params.now }
-    ensures { IfOk result (λ vars. map int_var_of vars ≡ spec.arguments params.now (map term_of args.now)) }
+    ensures { IfOk result (λ vars. map int_var_of vars ≡ put_of params.now (map term_of args.now)) }
 {
     let mut vars = Items::new(alloc);
     for index in 0..params.len() {
@@ -59,7 +60,7 @@ fn push_all(alloc: Global, parts: &mut TermParts, term: &Term) -> Result<(), Mem
 }
 
 fn turned(alloc: Global, part: &Part) -> Result<Part, Memory>
-    ensures { IfOk result (λ turned. part_of turned ≡ turned_part (part_of part.now)) }
+    ensures { IfOk result (λ turned. part_of turned ≡ negated (part_of part.now)) }
 {
     let mut turned = part.copy(alloc)?;
     turned.negative = !turned.negative;
@@ -67,7 +68,7 @@ fn turned(alloc: Global, part: &Part) -> Result<Part, Memory>
 }
 
 fn push_turned(alloc: Global, parts: &mut TermParts, term: &Term) -> Result<(), Memory>
-    ensures { OnOk result (map part_of parts.new ≡ map part_of parts.old ++ map turned_part (term_of term.now)) }
+    ensures { OnOk result (map part_of parts.new ≡ map part_of parts.old ++ map negated (term_of term.now)) }
 {
     for part in term.parts.as_slice() {
         parts.push(turned(alloc, part)?)?;
@@ -76,7 +77,7 @@ fn push_turned(alloc: Global, parts: &mut TermParts, term: &Term) -> Result<(), 
 }
 
 fn push_less(alloc: Global, parts: &mut TermParts, left: &Term, right: &Term) -> Result<(), Memory>
-    ensures { OnOk result (map part_of parts.new ≡ map part_of parts.old ++ spec.less (term_of left.now) (term_of right.now)) }
+    ensures { OnOk result (map part_of parts.new ≡ map part_of parts.old ++ less (term_of left.now) (term_of right.now)) }
 {
     push_all(alloc, parts, left)?;
     push_turned(alloc, parts, right)?;
@@ -84,7 +85,7 @@ fn push_less(alloc: Global, parts: &mut TermParts, left: &Term, right: &Term) ->
 }
 
 fn one() -> Part
-    ensures { part_of result ≡ spec.one }
+    ensures { part_of result ≡ one }
 {
     Part {
         negative: false,
@@ -125,9 +126,9 @@ fn asked_row(
     requires arity { length args.now ≡ length params.now }
     requires left { NamesOnly params.now (term_of left.now) }
     requires right { NamesOnly params.now (term_of right.now) }
-    ensures row { IfOk result (λ row. row ≡ spec.asked_row (setting_of setting.now) (spec.arguments params.now (map term_of args.now)) (letter_of letter) (term_of left.now) (term_of right.now)) }
+    ensures row { IfOk result (λ row. row ≡ spec.asked_row (setting_of setting.now) (put_of params.now (map term_of args.now)) (letter_of letter) (term_of left.now) (term_of right.now)) }
     ensures fits { IfOk result (λ row. row_fits row ≡ true) }
-    ensures err { IfErr result (λ fault. fault ≡ cause.TooLarge → row_fits (spec.asked_row (setting_of setting.now) (spec.arguments params.now (map term_of args.now)) (letter_of letter) (term_of left.now) (term_of right.now)) ≡ false) }
+    ensures err { IfErr result (λ fault. fault ≡ cause.TooLarge → row_fits (spec.asked_row (setting_of setting.now) (put_of params.now (map term_of args.now)) (letter_of letter) (term_of left.now) (term_of right.now)) ≡ false) }
 {
     let names = IntNames {
         ints: copy_names(alloc, setting.ints)?,
@@ -159,9 +160,9 @@ fn form_terms(
     right: &Term,
 ) -> Result<(), SubstFault>
     requires { length args.now ≡ length params.now }
-    ensures left { OnOk result (Fits (spec.arguments params.now (map term_of args.now)) [] (term_of left.now)) }
-    ensures right { OnOk result (Fits (spec.arguments params.now (map term_of args.now)) [] (term_of right.now)) }
-    ensures err { IfErr result (λ fault. fault ≡ cause.TooLarge → Fits (spec.arguments params.now (map term_of args.now)) [] (term_of left.now) → Fits (spec.arguments params.now (map term_of args.now)) [] (term_of right.now) → ⊥) }
+    ensures left { OnOk result (Fits (put_of params.now (map term_of args.now)) [] (term_of left.now)) }
+    ensures right { OnOk result (Fits (put_of params.now (map term_of args.now)) [] (term_of right.now)) }
+    ensures err { IfErr result (λ fault. fault ≡ cause.TooLarge → Fits (put_of params.now (map term_of args.now)) [] (term_of left.now) → Fits (put_of params.now (map term_of args.now)) [] (term_of right.now) → ⊥) }
 {
     let terms = both(alloc, left, right)?;
     subst_terms(alloc, &terms, params, args)?;
@@ -181,9 +182,9 @@ pub(crate) fn formed_row(
     requires arity { length args.now ≡ length params.now }
     requires left { NamesOnly params.now (term_of left.now) }
     requires right { NamesOnly params.now (term_of right.now) }
-    ensures row { IfOk result (λ row. row ≡ spec.asked_row (setting_of setting.now) (spec.arguments params.now (map term_of args.now)) (letter_of letter) (term_of left.now) (term_of right.now)) }
-    ensures formed { OnOk result (IsFormed (setting_of setting.now) (spec.arguments params.now (map term_of args.now)) (letter_of letter) (term_of left.now) (term_of right.now)) }
-    ensures err { IfErr result (λ fault. fault ≡ cause.TooLarge → IsFormed (setting_of setting.now) (spec.arguments params.now (map term_of args.now)) (letter_of letter) (term_of left.now) (term_of right.now) → ⊥) }
+    ensures row { IfOk result (λ row. row ≡ spec.asked_row (setting_of setting.now) (put_of params.now (map term_of args.now)) (letter_of letter) (term_of left.now) (term_of right.now)) }
+    ensures formed { OnOk result (IsFormed (setting_of setting.now) (put_of params.now (map term_of args.now)) (letter_of letter) (term_of left.now) (term_of right.now)) }
+    ensures err { IfErr result (λ fault. fault ≡ cause.TooLarge → IsFormed (setting_of setting.now) (put_of params.now (map term_of args.now)) (letter_of letter) (term_of left.now) (term_of right.now) → ⊥) }
 {
     form_terms(alloc, params, args, left, right)?;
     let row = asked_row(alloc, setting, params, args, letter, left, right)?;

@@ -3,12 +3,13 @@ ghost use Rattle.std.specs.Prelude.{◌≡◌, ◌++◌, ◌∷◌, [], List, tr
 ghost use Rattle.std.specs.Option.{option_map};
 ghost use Rattle.core_language.specs.Names.{Ident as Name};
 ghost use Rattle.core_language.specs.Resources.{Pair, Binds, End};
+ghost use Rattle.linear_forms.specs.Terms.{put_of};
 ghost use Rattle.linear_forms.specs.Substitution.{AllFit, IsSubst, terms_of_res};
 ghost use Rattle.chan_syntax.specs.Reading.{term_of, ref_of, bound_of, shape_of, res_of, equation_of, proto_of};
 ghost use Rattle.substitution.specs.declared.faults.SubstFault.TheVariants as cause;
 ghost use Rattle.protocols.specs.Duals as duals;
 ghost use Rattle.protocols.specs.Heads as heads;
-ghost use Rattle.protocols.specs.Unfolding.{arguments, stops, HasArity, HasFormed, IsMessageTooLarge};
+ghost use Rattle.protocols.specs.Unfolding.{stops, HasArity, HasFormed, IsMessageTooLarge};
 ghost use Rattle.protocols.specs.HeadsOf.{message_in, direction_of, resource_of};
 ghost use Rattle.protocols.specs.Places.{bare_bound, pieces_with_end, pieces_of_message, pieces_of_head, IsHeadPlaced};
 ghost use Rattle.substitution.specs.Places.{Binders, ArePlaced, pieces_of_ref, pieces_of_shape, pieces_of_res};
@@ -111,8 +112,8 @@ fn formed(alloc: Global, message: Head, params: &Idents, args: &Terms) -> Result
     requires { length args.now ≡ length params.now }
     ensures direction { IfOk result (λ head. direction_of head ≡ direction_of message) }
     ensures places { IfOk result (λ head. ArePlaced params.now args.now (pieces_of_head message) (pieces_of_head head)) }
-    ensures res { IfOk result (λ head. IsSubst (arguments params.now (map term_of args.now)) (resource_of message) (resource_of head)) }
-    ensures err { IfErr result (λ fault. fault ≡ cause.TooLarge → AllFit (arguments params.now (map term_of args.now)) (terms_of_res [] (resource_of message)) → ⊥) }
+    ensures res { IfOk result (λ head. IsSubst (put_of params.now (map term_of args.now)) (resource_of message) (resource_of head)) }
+    ensures err { IfErr result (λ fault. fault ≡ cause.TooLarge → AllFit (put_of params.now (map term_of args.now)) (terms_of_res [] (resource_of message)) → ⊥) }
 {
     match message {
         Head::Send(res) => {

@@ -1,6 +1,7 @@
 //! Ends that are followed past `if` equations, to the message that they have there.
 ghost use Rattle.std.specs.Prelude.{◌≡◌, ◌≤◌, [], true, All, length, map, is_some, Ok, Err, OnOk, IfOk, IfErr};
 ghost use Rattle.farkas_check.specs.Rows.{IsNarrow};
+ghost use Rattle.linear_forms.specs.Terms.{put_of};
 ghost use Rattle.linear_forms.specs.Substitution.{Fits, IsNormalPut, IsRefLike};
 ghost use Rattle.chan_syntax.specs.Bounds.{IsBounded};
 ghost use Rattle.chan_syntax.specs.Reading.{term_of, ref_of, proto_of, letter_of, cert_of};
@@ -8,7 +9,7 @@ ghost use Rattle.substitution.specs.declared.faults.SubstFault.TheVariants as ca
 ghost use Rattle.protocols.specs.Heads as heads;
 ghost use Rattle.protocols.specs.Duals.{turned_if};
 ghost use Rattle.protocols.specs.Unfolding as spec;
-ghost use Rattle.protocols.specs.Unfolding.{arguments, On, Stop, Steps, Follows, Unfolds, HasArity, AreFormed, IsTheHead};
+ghost use Rattle.protocols.specs.Unfolding.{On, Stop, Steps, Follows, Unfolds, HasArity, AreFormed, IsTheHead};
 ghost use Rattle.protocols.specs.FaultsOf.{IsFault};
 ghost use Rattle.protocols.specs.Settings.{under, setting_of, IsReady};
 ghost use Rattle.protocols.specs.Answers.{found_of};
@@ -43,8 +44,8 @@ struct Followed {
 fn next_end(alloc: Global, proto: &Proto, end: &Ref, picked: &Ref) -> Result<Ref, SubstFault>
     requires { length end.now.args ≡ length proto.now.params }
     ensures places { IfOk result (λ next. ArePlaced proto.now.params end.now.args (pieces_of_ref [] picked.now) (pieces_of_ref [] next)) }
-    ensures ok { IfOk result (λ next. IsRefLike (IsNormalPut (arguments proto.now.params (map term_of end.now.args))) [] [] (turned_if end.now.dual (ref_of picked.now)) (ref_of next)) }
-    ensures err { IfErr result (λ fault. fault ≡ cause.TooLarge → All (Fits (arguments proto.now.params (map term_of end.now.args)) []) (map term_of picked.now.args) → ⊥) }
+    ensures ok { IfOk result (λ next. IsRefLike (IsNormalPut (put_of proto.now.params (map term_of end.now.args))) [] [] (turned_if end.now.dual (ref_of picked.now)) (ref_of next)) }
+    ensures err { IfErr result (λ fault. fault ≡ cause.TooLarge → All (Fits (put_of proto.now.params (map term_of end.now.args)) []) (map term_of picked.now.args) → ⊥) }
 {
     let args = subst_terms(alloc, &picked.args, &proto.params, &end.args)?;
     Ok(Ref {

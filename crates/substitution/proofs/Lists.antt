@@ -4,14 +4,14 @@ use Rattle.std.proofs.lemmas.List.{take_more, map-append, append-nil, append_ass
 use Rattle.std.proofs.lemmas.List.Concat.{flat_map-append}
 use Rattle.core_language.specs.Names.{Ident}
 use Rattle.core_language.specs.Terms.{Term as Sum}
-use Rattle.linear_forms.specs.Terms.{times_of}
+use Rattle.linear_forms.specs.Terms.{times_of, put_of}
 use Rattle.linear_forms.specs.Replacing.{counting, scaled}
 use Rattle.chan_syntax.specs.Reading.{part_of, term_of}
 use Rattle.chan_syntax.specs.declared.linear.Part.{Part}
 use Rattle.chan_syntax.specs.declared.linear.Term.{Term}
 use Rattle.substitution.specs.declared.scope.Put.{Put}
 use Rattle.substitution.specs.Places.{puts_for}
-use Rattle.substitution.specs.Scopes.{put_in, put_of}
+use Rattle.substitution.specs.Scopes.{put_in}
 
 pub map_more : {X Y : Type 0} (f : X → Y) (xs : List X) (i : ℕ) (d : X) → i < length xs → map f (take (i + 1) xs) ≡ map f (take i xs) ++ f (get_or xs i d) ∷ []
 map_more f xs i d h = ap (map f) (take_more xs i d h) ∙ map-append f (take i xs) (get_or xs i d ∷ [])
@@ -23,7 +23,7 @@ flat_map_more g f xs i d h = ap (flat_map g) (map_more f xs i d h) ∙ flat_map-
 pub flat_taken : {X Y : Type 0} (f : X → List Y) (xs : List X) (i : ℕ) (x : X) → i < length xs → get_or xs i x ≡ x → flat_map f (take (i + 1) xs) ≡ flat_map f (take i xs) ++ f x
 flat_taken f xs i x l e = ap (flat_map f) (take_more xs i x l ∙ ap (λ y. take i xs ++ y ∷ []) e) ∙ flat_map-append f (take i xs) (x ∷ []) ∙ ap (λ l. flat_map f (take i xs) ++ l) (append-nil (f x))
 
-pub puts_in : (xs : List Ident) (ts : List Term) → map put_in (puts_for xs ts) ≡ put_of xs ts
+pub puts_in : (xs : List Ident) (ts : List Term) → map put_in (puts_for xs ts) ≡ put_of xs (map term_of ts)
 puts_in [] ts = refl
 puts_in (x ∷ xs) [] = refl
 puts_in (x ∷ xs) (t ∷ ts) = ap (λ l. record { name = x; term = term_of t } ∷ l) (puts_in xs ts)

@@ -1,5 +1,5 @@
 -- Sums of names and of bare numbers, and the term that they are.
-use Rattle.std.specs.Prelude.{◌≡◌, ◌⊎◌, ℕ, ◌≤◌, ℤ, pos, unsigned_abs, Bool, true, false, if◌then◌else◌, List, [], ◌∷◌, ◌++◌, map, find, Option, Some, None, Result, Ok, Err, unwrap_or}
+use Rattle.std.specs.Prelude.{◌≡◌, ◌⊎◌, ℕ, ◌≤◌, ℤ, pos, unsigned_abs, Bool, if◌then◌else◌, List, [], ◌∷◌, ◌++◌, map, find, Option, Some, None, unwrap_or}
 use Rattle.std.specs.Option.{option_map}
 use Rattle.std.specs.Ordering.{nat_cmp, int_eq}
 use Rattle.std.specs.Cmp.Lexicographic.{slice_cmp}
@@ -11,8 +11,6 @@ use Rattle.linear_forms.specs.NormalTerms.{Counted, count_of, bare_of}
 use Rattle.chan_base.specs.declared.spans.Span.{Span}
 use Rattle.chan_syntax.specs.declared.linear.Part.{Part}
 use Rattle.substitution.specs.Places.{Token}
-use Rattle.substitution.specs.declared.faults.SubstFault.{SubstFault}
-use Rattle.substitution.specs.declared.faults.SubstFault.TheVariants.{TooLarge}
 use Rattle.substitution.specs.declared.summands.Summand.{Summand}
 use Rattle.substitution.specs.declared.summands.Summands.{Summands}
 
@@ -29,11 +27,6 @@ pub record HasSums (sums : Summands) (term : Term) : Type 0 where
 pub record IsWithin (size : ℕ) (sums : Summands) : Type 0 where
   pub counts : (x : Ident) → unsigned_abs (sum_at sums x) ≤ size
   pub constant : unsigned_abs sums.constant ≤ size
-
--- a sum where 64 bits hold it
-abbrev pub IsNumberOf : ℤ → Result ℤ SubstFault → Type 0
-IsNumberOf z (Ok n) = (n ≡ z) × (fits z ≡ true)
-IsNumberOf z (Err fault) = (fault ≡ TooLarge) × (fits z ≡ false)
 
 -- the names and their sums
 abbrev pub sums_in : List (Ident × Summand) → List Counted

@@ -2,10 +2,12 @@
 ghost use Rattle.std.specs.Prelude.{◌≡◌, ◌++◌, ◌∷◌, List, map, find, length, is_none, IfOk};
 ghost use Rattle.std.specs.Option.{option_copied};
 ghost use Rattle.core_language.specs.Names.{same};
+ghost use Rattle.linear_forms.specs.Terms.{put_of};
 ghost use Rattle.linear_forms.specs.Replacing as spec;
 ghost use Rattle.linear_forms.specs.Substitution.{place_of};
+ghost use Rattle.chan_syntax.specs.Reading.{term_of};
 ghost use Rattle.substitution.specs.Places.{puts_for};
-ghost use Rattle.substitution.specs.Scopes.{put_in, put_of, before_of, after_of};
+ghost use Rattle.substitution.specs.Scopes.{put_in, before_of, after_of};
 
 use chan_base::Memory;
 use chan_syntax::{Ident, Idents, Term, Terms};
@@ -62,7 +64,7 @@ pub(crate) fn put_named<'a>(put: &'a [Put], name: &Ident) -> Option<&'a Put>
 
 pub(crate) fn puts_of(alloc: Global, names: &Idents, by: &Terms) -> Result<Puts, Memory>
     requires { length names.now ≡ length by.now }
-    ensures terms { IfOk result (λ put. map put_in put ≡ put_of names.now by.now) }
+    ensures terms { IfOk result (λ put. map put_in put ≡ put_of names.now (map term_of by.now)) }
     ensures places { IfOk result (λ put. put ≡ puts_for names.now by.now) }
 {
     let mut put = Items::new(alloc);

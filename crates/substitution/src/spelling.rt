@@ -3,11 +3,11 @@ ghost use Rattle.std.specs.Prelude.{◌≡◌, ◌++◌, true, false, List, All,
 ghost use Rattle.std.specs.List.{list_all};
 ghost use Rattle.core_language.specs.Terms.{Term as Sum};
 ghost use Rattle.chan_syntax.specs.Reading.{part_of, term_of};
-ghost use Rattle.linear_forms.specs.Normal.{fits};
+ghost use Rattle.linear_forms.specs.Normal.{fits, IsNumberOf};
 ghost use Rattle.linear_forms.specs.NormalTerms.{Counted, IsNormal, IsSameSum, NumbersFit, signed, named_parts, spelled, counted_once, nonzero};
 ghost use Rattle.substitution.specs.declared.faults.SubstFault.TheVariants as cause;
 ghost use Rattle.substitution.specs.Places.{Token, place_among};
-ghost use Rattle.substitution.specs.Sums.{HasSums, HasPlaces, IsNumberOf, IsWithNumber, sums_in, entry_fits, where_of, where_in};
+ghost use Rattle.substitution.specs.Sums.{HasSums, HasPlaces, IsWithNumber, sums_in, entry_fits, where_of, where_in};
 
 use crate::faults::SubstFault;
 use crate::summands::{Summand, Summands};
@@ -19,7 +19,7 @@ use std::collections::BTreeMap;
 use wide_sums::Wide;
 
 fn number(sum: &Wide) -> Result<i64, SubstFault>
-    ensures { IsNumberOf sum.now result }
+    ensures { IsNumberOf cause.TooLarge sum.now result }
 {
     sum.to_i64().ok_or(SubstFault::TooLarge)
 }

@@ -1,12 +1,13 @@
 //! Resources with terms put in.
 ghost use Rattle.std.specs.Prelude.{◌≡◌, ◌+◌, ◌≤◌, ◌∷◌, suc, [], true, false, length, take, map, flat_map, All, IfOk, IfErr};
 ghost use Rattle.core_language.specs.Resources.{Int, End};
-ghost use Rattle.chan_syntax.specs.Reading.{term_of, limit_of, ref_of, shape_of, res_of};
+ghost use Rattle.linear_forms.specs.Terms.{put_of};
 ghost use Rattle.linear_forms.specs.Substitution.{Fits, AllFit, Each, IsNormalPut, IsLimitLike, IsRefLike, IsShapeLike, IsResLike, IsRenamed, IsSubst, terms_of_shape, terms_of_res};
 ghost use Rattle.substitution.specs.declared.faults.SubstFault.TheVariants as cause;
 ghost use Rattle.linear_forms.specs.Replacing.{IsShort, IsShortShape, IsShortRes, ArePutShort, AreSafe, IsLonger, IsReady, IsReadyLimit, FitsLimit};
+ghost use Rattle.chan_syntax.specs.Reading.{term_of, limit_of, ref_of, shape_of, res_of};
 ghost use Rattle.substitution.specs.Places.{Words, IsPlacedTerm, IsPlaced, ArePlaced, pieces_of_limit, pieces_of_ref, pieces_of_shape, pieces_of_res};
-ghost use Rattle.substitution.specs.Scopes.{put_in, put_of, before_of, after_of};
+ghost use Rattle.substitution.specs.Scopes.{put_in, before_of, after_of};
 
 use crate::catching::catches;
 use crate::faults::SubstFault;
@@ -324,9 +325,9 @@ fn subst_res(
 /// A binder that would catch a name of a term that is put in has a new name: its own, with dots.
 pub fn subst(alloc: Global, res: &Res, names: &Idents, by: &Terms) -> Result<Res, SubstFault>
     requires { length names.now ≡ length by.now }
-    ensures ok { IfOk result (λ put. IsSubst (put_of names.now by.now) (res_of res.now) (res_of put)) }
+    ensures ok { IfOk result (λ put. IsSubst (put_of names.now (map term_of by.now)) (res_of res.now) (res_of put)) }
     ensures places { IfOk result (λ put. ArePlaced names.now by.now (pieces_of_res [] res.now) (pieces_of_res [] put)) }
-    ensures err { IfErr result (λ fault. fault ≡ cause.TooLarge → AllFit (put_of names.now by.now) (terms_of_res [] (res_of res.now)) → ⊥) }
+    ensures err { IfErr result (λ fault. fault ≡ cause.TooLarge → AllFit (put_of names.now (map term_of by.now)) (terms_of_res [] (res_of res.now)) → ⊥) }
 {
     let put = puts_of(alloc, names, by)?;
     let longest = with_res(longest_put(put.as_slice()), res);
@@ -342,9 +343,9 @@ pub fn subst_terms(
     by: &Terms,
 ) -> Result<Terms, SubstFault>
     requires { length names.now ≡ length by.now }
-    ensures ok { IfOk result (λ put. Each (IsNormalPut (put_of names.now by.now) [] []) (map term_of terms.now) (map term_of put)) }
+    ensures ok { IfOk result (λ put. Each (IsNormalPut (put_of names.now (map term_of by.now)) [] []) (map term_of terms.now) (map term_of put)) }
     ensures places { IfOk result (λ put. ArePlaced names.now by.now (map (Words []) terms.now) (map (Words []) put)) }
-    ensures err { IfErr result (λ fault. fault ≡ cause.TooLarge → All (Fits (put_of names.now by.now) []) (map term_of terms.now) → ⊥) }
+    ensures err { IfErr result (λ fault. fault ≡ cause.TooLarge → All (Fits (put_of names.now (map term_of by.now)) []) (map term_of terms.now) → ⊥) }
 {
     let put = puts_of(alloc, names, by)?;
     let scope: Scope = Items::new(alloc);

@@ -3,11 +3,11 @@ use Rattle.std.proofs.Common.{◌≡◌, ◌⊎◌, inl, inr, ⊎_elim, true≢f
 use Rattle.core_language.specs.Terms.{Term}
 use Rattle.core_language.specs.Resources.{Ref, Res, Equation, Proto, Send, Recv, Close, Wait, Branch}
 use Rattle.core_language.specs.Operands.{Letter}
-use Rattle.linear_forms.specs.Terms.{IntVar}
+use Rattle.linear_forms.specs.Terms.{IntVar, put_of}
 use Rattle.linear_forms.specs.Substitution.{Each, Fits, IsNormalPut, IsRefLike, IsSubst, AllFit, terms_of_res}
 use Rattle.protocols.specs.Duals.{Message, Direction, message_of}
 use Rattle.protocols.specs.Heads.{proto_named, equation_of_end, on_way}
-use Rattle.protocols.specs.Unfolding.{Fault, WrongForm, CertCount, BranchNotProved, TooLarge, has_form, Setting, arguments, asked_row, obligation, IsFormed, Outcome, On, Stop, Takes, HasEquationAt, Steps, Follows, HasMessage, HasFormed, IsMessageTooLarge, Found, Unfolds}
+use Rattle.protocols.specs.Unfolding.{Fault, WrongForm, CertCount, BranchNotProved, TooLarge, has_form, Setting, asked_row, obligation, IsFormed, Outcome, On, Stop, Takes, HasEquationAt, Steps, Follows, HasMessage, HasFormed, IsMessageTooLarge, Found, Unfolds}
 use Rattle.unfold_laws.specs.Answers.{AreAlike}
 use Rattle.unfold_laws.proofs.OneSpelling.{one_term_under}
 use Rattle.unfold_laws.proofs.OneResult.{each_all, made_ref, one_subst, res_fits}
@@ -103,7 +103,7 @@ equation_same protos ref p q a b (n, i) (m, j) =
 module _ (s : Setting) where
   -- what comes of a letter at an end with this equation
   abbrev ComesAt : ℕ → Ref → Letter → Outcome → Proto → Equation → Type 0
-  ComesAt used ref letter outcome proto (Branch left right this other) = Takes s used (arguments proto.params ref.args) letter left right (on_way letter this other) outcome
+  ComesAt used ref letter outcome proto (Branch left right this other) = Takes s used (put_of proto.params ref.args) letter left right (on_way letter this other) outcome
   ComesAt used ref letter outcome proto (Send res next) = ⊥
   ComesAt used ref letter outcome proto (Recv res next) = ⊥
   ComesAt used ref letter outcome proto Close = ⊥
@@ -111,7 +111,7 @@ module _ (s : Setting) where
 
   steps_once : (used : ℕ) (ref : Ref) (letter : Letter) (o p : Outcome) → Steps s used ref letter o → Steps s used ref letter p → o ≡ p
   steps_once used ref letter o p (proto, left, right, this, other, has, first) (proto_too, left_too, right_too, this_too, other_too, has_too, second) =
-      comes_once s used (arguments proto.params ref.args) letter left right (on_way letter this other) o p first moved
+      comes_once s used (put_of proto.params ref.args) letter left right (on_way letter this other) o p first moved
     where
       same : (proto_too ≡ proto) × (Branch left_too right_too this_too other_too ≡ Branch left right this other)
       same = equation_same s.protos ref proto proto_too (Branch left right this other) (Branch left_too right_too this_too other_too) has has_too
@@ -154,7 +154,7 @@ message_same o m n e f = cc
 messages_same : (protos : List Proto) (ref : Ref) (m n : Message) (xs ys : List IntVar) → HasMessage protos ref m xs → HasMessage protos ref n ys → (n ≡ m) × (ys ≡ xs)
 messages_same protos ref m n xs ys (p, a, has, is, put) (q, b, has_too, is_too, put_too) =
     let same = equation_same protos ref p q a b has has_too in
-    (message_same (message_of a) m n is (ap message_of (sym same.1) ∙ is_too), put_too ∙ ap (λ (r : Proto). arguments r.params ref.args) same.0 ∙ sym put)
+    (message_same (message_of a) m n is (ap message_of (sym same.1) ∙ is_too), put_too ∙ ap (λ (r : Proto). put_of r.params ref.args) same.0 ∙ sym put)
 
 formed_or_large : (protos : List Proto) (ref : Ref) (direction : Direction) (res : Res) → HasFormed protos ref direction res → IsMessageTooLarge protos ref → ⊥
 formed_or_large protos ref direction res (m, xs, has, is, put) (n, ys, has_too, unfit) =

@@ -1,7 +1,7 @@
 use Rattle.std.proofs.Common.{◌≡◌, ◌++◌, map, drop}
+use Rattle.linear_forms.specs.Terms.{negated}
 use Rattle.chan_syntax.specs.Reading.{part_of}
-use Rattle.protocols.specs.Unfolding.{turned_part}
 use Rattle.protocols.proofs.asking.push_turned.Given as goal
 
 abbrev pub invariant-loop-part : goal.invariant-loop-part
-invariant-loop-part l = map part_of l.parts ++ map turned_part (map part_of (drop l.part-index l.part-items)) ≡ map part_of l.initial.parts ++ map turned_part (map part_of l.part-items)
+invariant-loop-part l = map part_of l.parts ++ map negated (map part_of (drop l.part-index l.part-items)) ≡ map part_of l.initial.parts ++ map negated (map part_of l.part-items)

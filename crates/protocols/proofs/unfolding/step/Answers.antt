@@ -1,6 +1,7 @@
 use Rattle.std.proofs.Common.{◌≡◌, map, ap, sym, ◌∙◌, Some, Err}
 use Rattle.std.proofs.lemmas.Result.{err_from_is_err_and}
 use Rattle.std.specs.Option.{option_map, option_copied}
+use Rattle.linear_forms.specs.Terms.{put_of}
 use Rattle.chan_syntax.specs.Reading.{ref_of, equation_of, proto_of, letter_of, term_of}
 use Rattle.protocols.specs.Unfolding.{Stop, Steps}
 use Rattle.protocols.specs.Unfolding as spec
@@ -32,14 +33,14 @@ returns-in_err-row-clause-err c =
     rw (p.1, p.2) (large_fault (λ fault. Steps (setting_of c.args.setting.now) c.args.at.now.used (ref_of c.args.at.now.end) (letter_of c.args.letter) (Stop fault)) _ (λ e. row_too_large (setting_of c.args.setting.now) c.args.at.now.used (ref_of c.args.at.now.end) (proto_of c.in-Some.proto.now) (letter_of c.args.letter) (term_of c.in-Branch.left) (term_of c.in-Branch.right) (ref_of c.in-Branch.this) (ref_of c.in-Branch.other) named (ap equation_of c.in-Branch.is) (c.in_err-row.ensures.err e)))
 
 pub oblige-requires-clause-row : goal.oblige-requires-clause-row
-oblige-requires-clause-row c = asked_narrow (setting_of c.args.setting.now) (spec.arguments c.in-Some.proto.now.params (map term_of c.args.at.now.end.args)) (letter_of c.args.letter) (term_of c.in-Branch.left) (term_of c.in-Branch.right) c.in_ok-row.row c.requires.ready.ints c.in_ok-row.ensures.row
+oblige-requires-clause-row c = asked_narrow (setting_of c.args.setting.now) (put_of c.in-Some.proto.now.params (map term_of c.args.at.now.end.args)) (letter_of c.args.letter) (term_of c.in-Branch.left) (term_of c.in-Branch.right) c.in_ok-row.row c.requires.ready.ints c.in_ok-row.ensures.row
 
 pub returns-in_err-used-clause-err : goal.returns-in_err-used-clause-err
 returns-in_err-used-clause-err c =
     let named = rw c.as_slice.ensures at (sym c.proto_named.ensures.read ∙ ap (λ o. option_map proto_of (option_copied o)) c.in-Some.is) in
     let p = err_from_is_err_and c.from_residual-in_err-used.result c.from_residual-in_err-used.ensures.1 in
     let failed = rw c.in_ok-row.ensures.row at c.in_err-used.ensures.err in
-    rw (p.1, p.2) (fault_to (λ fault. spec.obligation (setting_of c.args.setting.now) c.args.at.now.used (spec.asked_row (setting_of c.args.setting.now) (spec.arguments c.in-Some.proto.now.params (map term_of c.args.at.now.end.args)) (letter_of c.args.letter) (term_of c.in-Branch.left) (term_of c.in-Branch.right)) ≡ Err fault) (λ fault. Steps (setting_of c.args.setting.now) c.args.at.now.used (ref_of c.args.at.now.end) (letter_of c.args.letter) (Stop fault)) _ (λ fault e. not_met (setting_of c.args.setting.now) c.args.at.now.used (ref_of c.args.at.now.end) (proto_of c.in-Some.proto.now) (letter_of c.args.letter) (term_of c.in-Branch.left) (term_of c.in-Branch.right) (ref_of c.in-Branch.this) (ref_of c.in-Branch.other) named (ap equation_of c.in-Branch.is) fault c.in_ok-row.ensures.formed e) failed)
+    rw (p.1, p.2) (fault_to (λ fault. spec.obligation (setting_of c.args.setting.now) c.args.at.now.used (spec.asked_row (setting_of c.args.setting.now) (put_of c.in-Some.proto.now.params (map term_of c.args.at.now.end.args)) (letter_of c.args.letter) (term_of c.in-Branch.left) (term_of c.in-Branch.right)) ≡ Err fault) (λ fault. Steps (setting_of c.args.setting.now) c.args.at.now.used (ref_of c.args.at.now.end) (letter_of c.args.letter) (Stop fault)) _ (λ fault e. not_met (setting_of c.args.setting.now) c.args.at.now.used (ref_of c.args.at.now.end) (proto_of c.in-Some.proto.now) (letter_of c.args.letter) (term_of c.in-Branch.left) (term_of c.in-Branch.right) (ref_of c.in-Branch.this) (ref_of c.in-Branch.other) named (ap equation_of c.in-Branch.is) fault c.in_ok-row.ensures.formed e) failed)
 
 pub next_end-requires : goal.next_end-requires
 next_end-requires c =
