@@ -3,7 +3,7 @@ use Rattle.std.proofs.Common.{◌≡◌, ℕ, ◌≤◌, List, ◌++◌, All, fl
 use Rattle.std.proofs.lemmas.List.{map-append, length-map, length-append, take_at}
 use Rattle.core_language.specs.Names.{Ident}
 use Rattle.core_language.specs.Terms.{Bound}
-use Rattle.core_language.specs.Resources.{Shape, Res, Binds}
+use Rattle.core_language.specs.Resources.{Shape, Binds}
 use Rattle.linear_forms.specs.Terms.{IntVar}
 use Rattle.linear_forms.specs.Substitution.{Scoped, scoped, puts, terms_of_limit, terms_of_shape, terms_of_res, Fits, AllFit, Each, IsRenamed, IsNormalPut, IsLimitLike, IsShapeLike, IsResLike}
 use Rattle.linear_forms.specs.Replacing.{IsShortLimit, IsShortRes, ArePutShort, AreSafe, IsLonger, IsReadyLimit, FitsLimit}

@@ -1,5 +1,5 @@
 -- What stands in a text, of resources and of what they hold.
-use Rattle.std.proofs.Common.{◌≡◌, ℕ, ◌+◌, ◌<◌, List, [], ◌∷◌, ◌++◌, map as all_map, flat_map, take, get_or, length, refl, sym, ◌∙◌, ap, subst}
+use Rattle.std.proofs.Common.{◌≡◌, ℕ, ◌+◌, ◌<◌, List, [], ◌∷◌, ◌++◌, flat_map, take, get_or, length, refl, sym, ◌∙◌, ap, subst}
 use denote.Hole.Carrier.{hidden}
 use mathlib.Core.Former.{this, list_count, list_put}
 use mathlib.Core.List.{map}
@@ -14,7 +14,7 @@ use Rattle.chan_syntax.specs.declared.resources.Shape.TheVariants as shape
 use Rattle.chan_syntax.specs.declared.resources.Shape.TheBlock.{hidden-the_row-Res-0, hidden-the_row-Res-1, back-the_row-Res}
 use Rattle.substitution.specs.declared.scope.Binder.{Binder}
 use Rattle.substitution.specs.declared.scope.Put.{Put}
-use Rattle.substitution.specs.Places.{Piece, IsPlaced, pieces_of_limit, pieces_of_bound, pieces_of_shape, pieces_in, pieces_of_res}
+use Rattle.substitution.specs.Places.{IsPlaced, pieces_of_limit, pieces_of_bound, pieces_of_shape, pieces_in, pieces_of_res}
 use Rattle.substitution.specs.Scopes.{before_of, after_of}
 use Rattle.substitution.proofs.Lists.{flat_taken}
 

@@ -1,3 +1,4 @@
 pub mod Sums
 pub mod Scopes
 pub mod Places
+pub mod Likeness

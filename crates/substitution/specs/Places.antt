@@ -46,10 +46,14 @@ abbrev pub place_among : List Token → Option Ident → Option Span
 place_among tokens None = None
 place_among tokens (Some x) = first_place tokens x
 
+-- each name of the parts has the place of the first of the tokens
+abbrev pub StandAmong : List Token → List Part → Type 0
+StandAmong tokens parts = All (λ p. p.name_span ≡ place_among tokens p.name) parts
+
 -- the second term has the place of the first, and each of its names the place where it stands first with the terms put in
 pub record IsPlacedTerm (put : List Put) (before after : List Ident) (t u : Term) : Type 0 where
   pub span : u.span ≡ t.span
-  pub names : All (λ p. p.name_span ≡ place_among (flat_map (part_put before after put) t.parts) p.name) u.parts
+  pub names : StandAmong (flat_map (part_put before after put) t.parts) u.parts
 
 -- ---- resources
 

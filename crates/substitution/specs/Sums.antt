@@ -23,6 +23,10 @@ pub record HasSums (sums : Summands) (term : Term) : Type 0 where
   pub counts : (x : Ident) → sum_at sums x ≡ count_of x term
   pub constant : sums.constant ≡ bare_of term
 
+-- parts are added: whatever term had these sums, it has the new ones with the parts behind it
+abbrev pub Adds : (old new : Summands) → Term → Type 0
+Adds old new more = (term : Term) → HasSums old term → HasSums new (term ++ more)
+
 -- each sum is at most this size
 pub record IsWithin (size : ℕ) (sums : Summands) : Type 0 where
   pub counts : (x : Ident) → unsigned_abs (sum_at sums x) ≤ size
@@ -44,6 +48,10 @@ span_at sums x = option_map (λ s. s.span) (get (slice_cmp nat_cmp) sums.named x
 -- each name of the sums stands where it is first among these
 abbrev pub HasPlaces : Summands → List Token → Type 0
 HasPlaces sums tokens = (x : Ident) → span_at sums x ≡ option_map (λ t. t.place) (find (λ t. same t.name x) tokens)
+
+-- tokens are met: whichever names the sums had first, these come behind them
+abbrev pub Meets : (old new : Summands) → List Token → Type 0
+Meets old new more = (tokens : List Token) → HasPlaces old tokens → HasPlaces new (tokens ++ more)
 
 -- a part's name, and where it stands
 abbrev pub Where : Type 0

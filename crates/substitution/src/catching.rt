@@ -4,7 +4,8 @@ ghost use Rattle.std.specs.List.{list_any};
 ghost use Rattle.core_language.specs.Names.{same};
 ghost use Rattle.chan_syntax.specs.Reading.{part_of, term_of, limit_of, shape_of, res_of};
 ghost use Rattle.linear_forms.specs.Normal.{names_of};
-ghost use Rattle.linear_forms.specs.Substitution.{place_of, put_names, puts, scoped, terms_of_limit, terms_of_shape, terms_of_res};
+ghost use Rattle.linear_forms.specs.Substitution.{put_names, puts, scoped, terms_of_limit, terms_of_shape, terms_of_res};
+ghost use Rattle.substitution.specs.Likeness.{puts_below, catches_at};
 ghost use Rattle.substitution.specs.Scopes.{put_in, before_of};
 
 use crate::scope::{Binder, Put, Scope, is_free, joined, kept, put_named};
@@ -43,7 +44,7 @@ fn replaces_naming(put: &[Put], name: &Ident, other: &Ident) -> bool
 }
 
 fn part_puts(scope: &[Binder], put: &[Put], part: &Part, name: &Ident) -> bool
-    ensures { result ≡ list_any (λ x. is_none (place_of (before_of scope.now) x) && put_names (map put_in put.now) x name.now) (option_to_list part.now.name) }
+    ensures { result ≡ list_any (λ x. catches_at put.now scope.now x name.now) (option_to_list part.now.name) }
 {
     match &part.name {
         Some(other) => is_free(scope, other) && replaces_naming(put, other, name),
@@ -115,7 +116,7 @@ fn resources_put(
     resources: &[Res],
     name: &Ident,
 ) -> Result<bool, Memory>
-    ensures { IfOk result (λ caught. caught ≡ list_any (puts (map put_in put.now) name.now) (flat_map (terms_of_res (before_of scope.now)) (map res_of resources.now))) }
+    ensures { IfOk result (λ caught. caught ≡ puts_below put.now scope.now resources.now name.now) }
 {
     for resource in resources {
         if catches(alloc, scope, put, resource, name)? {

@@ -3,9 +3,10 @@ ghost use Rattle.std.specs.Prelude.{◌≡◌, ◌+◌, ◌≤◌, ◌<◌, ◌^
 ghost use Rattle.core_language.specs.Terms.{Term as Sum};
 ghost use Rattle.chan_syntax.specs.Reading.{part_of, term_of};
 ghost use Rattle.linear_forms.specs.Terms.{times_of};
-ghost use Rattle.linear_forms.specs.Replacing.{counting, scaled, replaced_name, replaced_part, replaced};
-ghost use Rattle.substitution.specs.Places.{Token, token_of, token_put, part_put};
-ghost use Rattle.substitution.specs.Sums.{HasSums, HasPlaces, IsWithin};
+ghost use Rattle.linear_forms.specs.Replacing.{counting, scaled, replaced_part, replaced};
+ghost use Rattle.substitution.specs.Places.{token_of, part_put};
+ghost use Rattle.substitution.specs.Sums.{HasSums, HasPlaces, Adds, Meets, IsWithin};
+ghost use Rattle.substitution.specs.Likeness.{name_put, tokens_put};
 ghost use Rattle.substitution.specs.Scopes.{put_in, before_of, after_of};
 
 use crate::scope::{Binder, Put, new_name, put_named};
@@ -18,9 +19,9 @@ use std::alloc::Global;
 fn add_part(alloc: Global, sums: &mut Summands, weight: i128, part: &Part) -> Result<(), Memory>
     requires weight { unsigned_abs weight ≤ 2 ^ 63 }
     requires within { IsWithin (2 ^ 247) sums.old }
-    ensures sums { OnOk result ((sum : Sum) → HasSums sums.old sum → HasSums sums.new (sum ++ counting (weight *ℤ times_of (part_of part.now)) part.now.name ∷ [])) }
+    ensures sums { OnOk result (Adds sums.old sums.new (counting (weight *ℤ times_of (part_of part.now)) part.now.name ∷ [])) }
     ensures within { OnOk result ((size : ℕ) → IsWithin size sums.old → IsWithin (size + 2 ^ 126) sums.new) }
-    ensures places { OnOk result ((tokens : List Token) → HasPlaces sums.old tokens → HasPlaces sums.new (tokens ++ token_of part.now)) }
+    ensures places { OnOk result (Meets sums.old sums.new (token_of part.now)) }
 {
     match &part.name {
         Some(name) => sums.add_name(alloc, name, part.name_span, weight, part.times()),
@@ -35,9 +36,9 @@ fn add_part(alloc: Global, sums: &mut Summands, weight: i128, part: &Part) -> Re
 fn add_term(alloc: Global, sums: &mut Summands, weight: i128, parts: &[Part]) -> Result<(), Memory>
     requires weight { unsigned_abs weight ≤ 2 ^ 63 }
     requires within { IsWithin (2 ^ 246) sums.old }
-    ensures sums { OnOk result ((sum : Sum) → HasSums sums.old sum → HasSums sums.new (sum ++ scaled weight (map part_of parts.now))) }
+    ensures sums { OnOk result (Adds sums.old sums.new (scaled weight (map part_of parts.now))) }
     ensures within { OnOk result ((size : ℕ) → IsWithin size sums.old → IsWithin (size + 2 ^ 185) sums.new) }
-    ensures places { OnOk result ((tokens : List Token) → HasPlaces sums.old tokens → HasPlaces sums.new (tokens ++ flat_map token_of parts.now)) }
+    ensures places { OnOk result (Meets sums.old sums.new (flat_map token_of parts.now)) }
 {
     for part in parts {
         add_part(alloc, sums, weight, part)?;
@@ -48,9 +49,9 @@ fn add_term(alloc: Global, sums: &mut Summands, weight: i128, parts: &[Part]) ->
 /// Adds a name as often as a part counts it.
 fn add_once(alloc: Global, sums: &mut Summands, part: &Part, name: &Ident) -> Result<(), Memory>
     requires { IsWithin (2 ^ 246) sums.old }
-    ensures sums { OnOk result ((sum : Sum) → HasSums sums.old sum → HasSums sums.new (sum ++ counting (times_of (part_of part.now)) (Some name.now) ∷ [])) }
+    ensures sums { OnOk result (Adds sums.old sums.new (counting (times_of (part_of part.now)) (Some name.now) ∷ [])) }
     ensures within { OnOk result ((size : ℕ) → IsWithin size sums.old → IsWithin (size + 2 ^ 185) sums.new) }
-    ensures places { OnOk result ((tokens : List Token) → HasPlaces sums.old tokens → HasPlaces sums.new (tokens ++ record { name = name.now; place = part.now.name_span } ∷ [])) }
+    ensures places { OnOk result (Meets sums.old sums.new (record { name = name.now; place = part.now.name_span } ∷ [])) }
 {
     sums.add_name(alloc, name, part.name_span, 1, part.times())?;
     Ok(())
@@ -66,9 +67,9 @@ fn add_named(
     name: &Ident,
 ) -> Result<(), Memory>
     requires { IsWithin (2 ^ 246) sums.old }
-    ensures sums { OnOk result ((sum : Sum) → HasSums sums.old sum → HasSums sums.new (sum ++ replaced_name (before_of scope.now) (after_of scope.now) (map put_in put.now) (times_of (part_of part.now)) (Some name.now))) }
+    ensures sums { OnOk result (Adds sums.old sums.new (name_put put.now scope.now (times_of (part_of part.now)) name.now)) }
     ensures within { OnOk result ((size : ℕ) → IsWithin size sums.old → IsWithin (size + 2 ^ 185) sums.new) }
-    ensures places { OnOk result ((tokens : List Token) → HasPlaces sums.old tokens → HasPlaces sums.new (tokens ++ token_put (before_of scope.now) (after_of scope.now) put.now (record { name = name.now; place = part.now.name_span }))) }
+    ensures places { OnOk result (Meets sums.old sums.new (tokens_put put.now scope.now name.now part.now.name_span)) }
 {
     match new_name(scope, name) {
         Some(made) => add_once(alloc, sums, part, made),
@@ -87,9 +88,9 @@ fn add_replaced(
     part: &Part,
 ) -> Result<(), Memory>
     requires { IsWithin (2 ^ 246) sums.old }
-    ensures sums { OnOk result ((sum : Sum) → HasSums sums.old sum → HasSums sums.new (sum ++ replaced_part (before_of scope.now) (after_of scope.now) (map put_in put.now) (part_of part.now))) }
+    ensures sums { OnOk result (Adds sums.old sums.new (replaced_part (before_of scope.now) (after_of scope.now) (map put_in put.now) (part_of part.now))) }
     ensures within { OnOk result ((size : ℕ) → IsWithin size sums.old → IsWithin (size + 2 ^ 185) sums.new) }
-    ensures places { OnOk result ((tokens : List Token) → HasPlaces sums.old tokens → HasPlaces sums.new (tokens ++ part_put (before_of scope.now) (after_of scope.now) put.now part.now)) }
+    ensures places { OnOk result (Meets sums.old sums.new (part_put (before_of scope.now) (after_of scope.now) put.now part.now)) }
 {
     match &part.name {
         Some(name) => add_named(alloc, scope, put, sums, part, name),

@@ -6,7 +6,7 @@ ghost use Rattle.chan_syntax.specs.Reading.{part_of, term_of};
 ghost use Rattle.linear_forms.specs.Normal.{fits, IsNumberOf};
 ghost use Rattle.linear_forms.specs.NormalTerms.{Counted, IsNormal, IsSameSum, NumbersFit, signed, named_parts, spelled, counted_once, nonzero};
 ghost use Rattle.substitution.specs.declared.faults.SubstFault.TheVariants as cause;
-ghost use Rattle.substitution.specs.Places.{Token, place_among};
+ghost use Rattle.substitution.specs.Places.{Token, StandAmong};
 ghost use Rattle.substitution.specs.Sums.{HasSums, HasPlaces, IsWithNumber, sums_in, entry_fits, where_of, where_in};
 
 use crate::faults::SubstFault;
@@ -100,7 +100,7 @@ impl Summands {
         ensures normal { IfOk result (λ term. IsNormal (term_of term)) }
         ensures fits { OnOk result ((sum : Sum) → HasSums self.now sum → NumbersFit sum) }
         ensures span { IfOk result (λ term. term.span ≡ span) }
-        ensures places { IfOk result (λ term. (tokens : List Token) → HasPlaces self.now tokens → All (λ p. p.name_span ≡ place_among tokens p.name) term.parts) }
+        ensures places { IfOk result (λ term. (tokens : List Token) → HasPlaces self.now tokens → StandAmong tokens term.parts) }
         ensures err { IfErr result (λ fault. fault ≡ cause.TooLarge → (sum : Sum) → HasSums self.now sum → NumbersFit sum → ⊥) }
     {
         let _ordered = self.named.len();

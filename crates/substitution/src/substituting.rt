@@ -2,11 +2,11 @@
 ghost use Rattle.std.specs.Prelude.{◌≡◌, ◌+◌, ◌≤◌, ◌∷◌, suc, [], true, false, length, take, map, flat_map, All, IfOk, IfErr};
 ghost use Rattle.core_language.specs.Resources.{Int, End};
 ghost use Rattle.linear_forms.specs.Terms.{put_of};
-ghost use Rattle.linear_forms.specs.Substitution.{Fits, AllFit, Each, IsNormalPut, IsLimitLike, IsRefLike, IsShapeLike, IsResLike, IsRenamed, IsSubst, terms_of_shape, terms_of_res};
-ghost use Rattle.substitution.specs.declared.faults.SubstFault.TheVariants as cause;
-ghost use Rattle.linear_forms.specs.Replacing.{IsShort, IsShortShape, IsShortRes, ArePutShort, AreSafe, IsLonger, IsReady, IsReadyLimit, FitsLimit};
+ghost use Rattle.linear_forms.specs.Substitution.{Fits, AllFit, Each, IsNormalPut, IsSubst, terms_of_shape, terms_of_res};
+ghost use Rattle.linear_forms.specs.Replacing.{IsShort, IsShortShape, IsShortRes, ArePutShort, IsReady, IsReadyLimit};
 ghost use Rattle.chan_syntax.specs.Reading.{term_of, limit_of, ref_of, shape_of, res_of};
-ghost use Rattle.substitution.specs.Places.{Words, IsPlacedTerm, IsPlaced, ArePlaced, pieces_of_limit, pieces_of_ref, pieces_of_shape, pieces_of_res};
+ghost use Rattle.substitution.specs.Places.{Words, IsPlacedTerm, ArePlaced, pieces_of_limit, pieces_of_ref, pieces_of_shape, pieces_of_res};
+ghost use Rattle.substitution.specs.Likeness.{TermLike, TermsLike, LimitLike, LimitsLike, RefLike, ShapeLike, ResLike, ResourcesLike, Keeps, TermFits, TermsFit, LimitFits, LimitsFit, ShapeFits, ResFits, ResourcesFit, IsMisfit, pieces_of_limits, AreSafeIn, AreSafeBelow, AreLonger};
 ghost use Rattle.substitution.specs.Scopes.{put_in, before_of, after_of};
 
 use crate::catching::catches;
@@ -23,9 +23,9 @@ use std::alloc::Global;
 
 fn subst_term(alloc: Global, put: &[Put], scope: &[Binder], term: &Term) -> Result<Term, SubstFault>
     requires { IsReady (map put_in put.now) (before_of scope.now) (after_of scope.now) (term_of term.now) }
-    ensures ok { IfOk result (λ put_term. IsNormalPut (map put_in put.now) (before_of scope.now) (after_of scope.now) (term_of term.now) (term_of put_term)) }
+    ensures ok { IfOk result (λ put_term. TermLike put.now scope.now term.now put_term) }
     ensures places { IfOk result (λ put_term. IsPlacedTerm put.now (before_of scope.now) (after_of scope.now) term.now put_term) }
-    ensures err { IfErr result (λ fault. fault ≡ cause.TooLarge → Fits (map put_in put.now) (before_of scope.now) (term_of term.now) → ⊥) }
+    ensures err { IfErr result (λ fault. IsMisfit fault (TermFits put.now scope.now term.now)) }
 {
     let sums = sums_of(alloc, scope, put, term.parts.as_slice())?;
     let put_term = sums.term(alloc, term.span)?;
@@ -39,9 +39,9 @@ fn subst_terms_in(
     terms: &[Term],
 ) -> Result<Terms, SubstFault>
     requires { All (IsReady (map put_in put.now) (before_of scope.now) (after_of scope.now)) (map term_of terms.now) }
-    ensures ok { IfOk result (λ all. Each (IsNormalPut (map put_in put.now) (before_of scope.now) (after_of scope.now)) (map term_of terms.now) (map term_of all)) }
-    ensures places { IfOk result (λ all. Each (IsPlaced put.now) (map (Words (before_of scope.now)) terms.now) (map (Words (after_of scope.now)) all)) }
-    ensures err { IfErr result (λ fault. fault ≡ cause.TooLarge → All (Fits (map put_in put.now) (before_of scope.now)) (map term_of terms.now) → ⊥) }
+    ensures ok { IfOk result (λ all. TermsLike put.now scope.now terms.now all) }
+    ensures places { IfOk result (λ all. Keeps put.now scope.now (λ b. map (Words b) terms.now) (λ b. map (Words b) all)) }
+    ensures err { IfErr result (λ fault. IsMisfit fault (TermsFit put.now scope.now terms.now)) }
 {
     let mut all = Items::new(alloc);
     for term in terms {
@@ -57,9 +57,9 @@ fn subst_limit(
     limit: &Limit,
 ) -> Result<Limit, SubstFault>
     requires { IsReadyLimit (map put_in put.now) (before_of scope.now) (after_of scope.now) (limit_of limit.now) }
-    ensures ok { IfOk result (λ put_limit. IsLimitLike (IsNormalPut (map put_in put.now)) (before_of scope.now) (after_of scope.now) (limit_of limit.now) (limit_of put_limit)) }
-    ensures places { IfOk result (λ put_limit. Each (IsPlaced put.now) (pieces_of_limit (before_of scope.now) limit.now) (pieces_of_limit (after_of scope.now) put_limit)) }
-    ensures err { IfErr result (λ fault. fault ≡ cause.TooLarge → FitsLimit (map put_in put.now) (before_of scope.now) (limit_of limit.now) → ⊥) }
+    ensures ok { IfOk result (λ put_limit. LimitLike put.now scope.now limit.now put_limit) }
+    ensures places { IfOk result (λ put_limit. Keeps put.now scope.now (λ b. pieces_of_limit b limit.now) (λ b. pieces_of_limit b put_limit)) }
+    ensures err { IfErr result (λ fault. IsMisfit fault (LimitFits put.now scope.now limit.now)) }
 {
     Ok(Limit {
         left: subst_term(alloc, put, scope, &limit.left)?,
@@ -75,9 +75,9 @@ fn subst_limits(
     limits: &[Limit],
 ) -> Result<Limits, SubstFault>
     requires { All (IsReadyLimit (map put_in put.now) (before_of scope.now) (after_of scope.now)) (map limit_of limits.now) }
-    ensures ok { IfOk result (λ all. Each (IsLimitLike (IsNormalPut (map put_in put.now)) (before_of scope.now) (after_of scope.now)) (map limit_of limits.now) (map limit_of all)) }
-    ensures places { IfOk result (λ all. Each (IsPlaced put.now) (flat_map (pieces_of_limit (before_of scope.now)) limits.now) (flat_map (pieces_of_limit (after_of scope.now)) all)) }
-    ensures err { IfErr result (λ fault. fault ≡ cause.TooLarge → All (FitsLimit (map put_in put.now) (before_of scope.now)) (map limit_of limits.now) → ⊥) }
+    ensures ok { IfOk result (λ all. LimitsLike put.now scope.now limits.now all) }
+    ensures places { IfOk result (λ all. Keeps put.now scope.now (pieces_of_limits limits.now) (pieces_of_limits all)) }
+    ensures err { IfErr result (λ fault. IsMisfit fault (LimitsFit put.now scope.now limits.now)) }
 {
     let mut all = Items::new(alloc);
     for limit in limits {
@@ -88,9 +88,9 @@ fn subst_limits(
 
 fn subst_ref(alloc: Global, put: &[Put], scope: &[Binder], from: &Ref) -> Result<Ref, SubstFault>
     requires { All (IsReady (map put_in put.now) (before_of scope.now) (after_of scope.now)) (map term_of from.now.args) }
-    ensures ok { IfOk result (λ put_ref. IsRefLike (IsNormalPut (map put_in put.now)) (before_of scope.now) (after_of scope.now) (ref_of from.now) (ref_of put_ref)) }
-    ensures places { IfOk result (λ put_ref. Each (IsPlaced put.now) (pieces_of_ref (before_of scope.now) from.now) (pieces_of_ref (after_of scope.now) put_ref)) }
-    ensures err { IfErr result (λ fault. fault ≡ cause.TooLarge → All (Fits (map put_in put.now) (before_of scope.now)) (map term_of from.now.args) → ⊥) }
+    ensures ok { IfOk result (λ put_ref. RefLike put.now scope.now from.now put_ref) }
+    ensures places { IfOk result (λ put_ref. Keeps put.now scope.now (λ b. pieces_of_ref b from.now) (λ b. pieces_of_ref b put_ref)) }
+    ensures err { IfErr result (λ fault. IsMisfit fault (TermsFit put.now scope.now from.now.args)) }
 {
     Ok(Ref {
         dual: from.dual,
@@ -103,9 +103,9 @@ fn subst_ref(alloc: Global, put: &[Put], scope: &[Binder], from: &Ref) -> Result
 
 fn subst_int(alloc: Global, put: &[Put], scope: &[Binder], term: &Term) -> Result<Shape, SubstFault>
     requires { IsReady (map put_in put.now) (before_of scope.now) (after_of scope.now) (term_of term.now) }
-    ensures ok { IfOk result (λ shape. IsShapeLike (IsRenamed (map put_in put.now)) (IsNormalPut (map put_in put.now)) (before_of scope.now) (after_of scope.now) (Int (term_of term.now)) (shape_of shape)) }
-    ensures places { IfOk result (λ shape. Each (IsPlaced put.now) (Words (before_of scope.now) term.now ∷ []) (pieces_of_shape (after_of scope.now) shape)) }
-    ensures err { IfErr result (λ fault. fault ≡ cause.TooLarge → AllFit (map put_in put.now) (terms_of_shape (before_of scope.now) (Int (term_of term.now))) → ⊥) }
+    ensures ok { IfOk result (λ shape. ShapeLike put.now scope.now (Int (term_of term.now)) shape) }
+    ensures places { IfOk result (λ shape. Keeps put.now scope.now (λ b. Words b term.now ∷ []) (λ b. pieces_of_shape b shape)) }
+    ensures err { IfErr result (λ fault. IsMisfit fault (ShapeFits put.now scope.now (Int (term_of term.now)))) }
 {
     let put_term = subst_term(alloc, put, scope, term)?;
     Ok(Shape::Int(put_term))
@@ -113,9 +113,9 @@ fn subst_int(alloc: Global, put: &[Put], scope: &[Binder], term: &Term) -> Resul
 
 fn subst_end(alloc: Global, put: &[Put], scope: &[Binder], end: &Ref) -> Result<Shape, SubstFault>
     requires { All (IsReady (map put_in put.now) (before_of scope.now) (after_of scope.now)) (map term_of end.now.args) }
-    ensures ok { IfOk result (λ shape. IsShapeLike (IsRenamed (map put_in put.now)) (IsNormalPut (map put_in put.now)) (before_of scope.now) (after_of scope.now) (End (ref_of end.now)) (shape_of shape)) }
-    ensures places { IfOk result (λ shape. Each (IsPlaced put.now) (pieces_of_ref (before_of scope.now) end.now) (pieces_of_shape (after_of scope.now) shape)) }
-    ensures err { IfErr result (λ fault. fault ≡ cause.TooLarge → AllFit (map put_in put.now) (terms_of_shape (before_of scope.now) (End (ref_of end.now))) → ⊥) }
+    ensures ok { IfOk result (λ shape. ShapeLike put.now scope.now (End (ref_of end.now)) shape) }
+    ensures places { IfOk result (λ shape. Keeps put.now scope.now (λ b. pieces_of_ref b end.now) (λ b. pieces_of_shape b shape)) }
+    ensures err { IfErr result (λ fault. IsMisfit fault (ShapeFits put.now scope.now (End (ref_of end.now)))) }
 {
     let put_ref = subst_ref(alloc, put, scope, end)?;
     Ok(Shape::End(put_ref))
@@ -186,8 +186,8 @@ fn binders(
 ) -> Result<Scope, Memory>
     requires { All (IsShort longest) res.now.bound.names }
     ensures before { IfOk result (λ group. before_of group ≡ res.now.bound.names) }
-    ensures safe { IfOk result (λ group. AreSafe longest (map put_in put.now) (terms_of_res (before_of scope.now) (res_of res.now)) (length scope.now) (before_of group) (after_of group)) }
-    ensures longer { IfOk result (λ group. Each (IsLonger longest (map put_in put.now) (before_of scope.now) (res_of res.now)) res.now.bound.names (after_of group)) }
+    ensures safe { IfOk result (λ group. AreSafeBelow longest put.now scope.now (res_of res.now) group) }
+    ensures longer { IfOk result (λ group. AreLonger longest put.now scope.now (res_of res.now) res.now.bound.names group) }
 {
     let mut group = Items::new(alloc);
     let names = res.bound.names.as_slice();
@@ -212,9 +212,9 @@ fn subst_bound(
     requires ready { All (IsReadyLimit (map put_in put.now) (before_of scope.now) (after_of scope.now)) (map limit_of bound.now.limits) }
     ensures names { IfOk result (λ all. all.names ≡ after_of (take (length bound.now.names) scope.now)) }
     ensures spans { IfOk result (λ all. all.names_spans ≡ bound.now.names_spans) }
-    ensures ok { IfOk result (λ all. Each (IsLimitLike (IsNormalPut (map put_in put.now)) (before_of scope.now) (after_of scope.now)) (map limit_of bound.now.limits) (map limit_of all.limits)) }
-    ensures places { IfOk result (λ all. Each (IsPlaced put.now) (flat_map (pieces_of_limit (before_of scope.now)) bound.now.limits) (flat_map (pieces_of_limit (after_of scope.now)) all.limits)) }
-    ensures err { IfErr result (λ fault. fault ≡ cause.TooLarge → All (FitsLimit (map put_in put.now) (before_of scope.now)) (map limit_of bound.now.limits) → ⊥) }
+    ensures ok { IfOk result (λ all. LimitsLike put.now scope.now bound.now.limits all.limits) }
+    ensures places { IfOk result (λ all. Keeps put.now scope.now (pieces_of_limits bound.now.limits) (pieces_of_limits all.limits)) }
+    ensures err { IfErr result (λ fault. IsMisfit fault (LimitsFit put.now scope.now bound.now.limits)) }
 {
     let names = made_names(alloc, &scope[..bound.names.len()])?;
     let names_spans = copy_spans(alloc, &bound.names_spans)?;
@@ -234,12 +234,12 @@ fn subst_shape(
     scope: &Scope,
     shape: &Shape,
 ) -> Result<Shape, SubstFault>
-    requires safe { AreSafe longest (map put_in put.now) (terms_of_shape (before_of scope.now) (shape_of shape.now)) 0 (before_of scope.now) (after_of scope.now) }
+    requires safe { AreSafeIn longest put.now scope.now (terms_of_shape (before_of scope.now) (shape_of shape.now)) }
     requires short { IsShortShape longest (shape_of shape.now) }
     requires put_short { ArePutShort longest (map put_in put.now) }
-    ensures ok { IfOk result (λ put_shape. IsShapeLike (IsRenamed (map put_in put.now)) (IsNormalPut (map put_in put.now)) (before_of scope.now) (after_of scope.now) (shape_of shape.now) (shape_of put_shape)) }
-    ensures places { IfOk result (λ put_shape. Each (IsPlaced put.now) (pieces_of_shape (before_of scope.now) shape.now) (pieces_of_shape (after_of scope.now) put_shape)) }
-    ensures err { IfErr result (λ fault. fault ≡ cause.TooLarge → AllFit (map put_in put.now) (terms_of_shape (before_of scope.now) (shape_of shape.now)) → ⊥) }
+    ensures ok { IfOk result (λ put_shape. ShapeLike put.now scope.now (shape_of shape.now) put_shape) }
+    ensures places { IfOk result (λ put_shape. Keeps put.now scope.now (λ b. pieces_of_shape b shape.now) (λ b. pieces_of_shape b put_shape)) }
+    ensures err { IfErr result (λ fault. IsMisfit fault (ShapeFits put.now scope.now (shape_of shape.now))) }
 {
     match shape {
         Shape::Unit => Ok(Shape::Unit),
@@ -265,12 +265,12 @@ fn subst_boxed(
     scope: &Scope,
     res: &Res,
 ) -> Result<Boxed<Res>, SubstFault>
-    requires safe { AreSafe longest (map put_in put.now) (terms_of_res (before_of scope.now) (res_of res.now)) 0 (before_of scope.now) (after_of scope.now) }
+    requires safe { AreSafeIn longest put.now scope.now (terms_of_res (before_of scope.now) (res_of res.now)) }
     requires short { IsShortRes longest (res_of res.now) }
     requires put_short { ArePutShort longest (map put_in put.now) }
-    ensures ok { IfOk result (λ put_res. IsResLike (IsRenamed (map put_in put.now)) (IsNormalPut (map put_in put.now)) (before_of scope.now) (after_of scope.now) (res_of res.now) (res_of put_res)) }
-    ensures places { IfOk result (λ put_res. Each (IsPlaced put.now) (pieces_of_res (before_of scope.now) res.now) (pieces_of_res (after_of scope.now) put_res)) }
-    ensures err { IfErr result (λ fault. fault ≡ cause.TooLarge → AllFit (map put_in put.now) (terms_of_res (before_of scope.now) (res_of res.now)) → ⊥) }
+    ensures ok { IfOk result (λ put_res. ResLike put.now scope.now res.now put_res) }
+    ensures places { IfOk result (λ put_res. Keeps put.now scope.now (λ b. pieces_of_res b res.now) (λ b. pieces_of_res b put_res)) }
+    ensures err { IfErr result (λ fault. IsMisfit fault (ResFits put.now scope.now (res_of res.now))) }
 {
     let boxed = Boxed::new(alloc, subst_res(alloc, longest, put, scope, res)?)?;
     Ok(boxed)
@@ -284,12 +284,12 @@ fn subst_resources(
     scope: &Scope,
     resources: &[Res],
 ) -> Result<Resources, SubstFault>
-    requires safe { All (λ r. AreSafe longest (map put_in put.now) (terms_of_res (before_of scope.now) r) 0 (before_of scope.now) (after_of scope.now)) (map res_of resources.now) }
+    requires safe { All (λ r. AreSafeIn longest put.now scope.now (terms_of_res (before_of scope.now) r)) (map res_of resources.now) }
     requires short { All (IsShortRes longest) (map res_of resources.now) }
     requires put_short { ArePutShort longest (map put_in put.now) }
-    ensures ok { IfOk result (λ all. Each (IsResLike (IsRenamed (map put_in put.now)) (IsNormalPut (map put_in put.now)) (before_of scope.now) (after_of scope.now)) (map res_of resources.now) (map res_of all)) }
-    ensures places { IfOk result (λ all. Each (IsPlaced put.now) (flat_map (pieces_of_res (before_of scope.now)) resources.now) (flat_map (pieces_of_res (after_of scope.now)) all)) }
-    ensures err { IfErr result (λ fault. fault ≡ cause.TooLarge → All (λ r. AllFit (map put_in put.now) (terms_of_res (before_of scope.now) r)) (map res_of resources.now) → ⊥) }
+    ensures ok { IfOk result (λ all. ResourcesLike put.now scope.now resources.now all) }
+    ensures places { IfOk result (λ all. Keeps put.now scope.now (λ b. flat_map (pieces_of_res b) resources.now) (λ b. flat_map (pieces_of_res b) all)) }
+    ensures err { IfErr result (λ fault. IsMisfit fault (ResourcesFit put.now scope.now resources.now)) }
 {
     let mut all = Items::new(alloc);
     for resource in resources {
@@ -306,12 +306,12 @@ fn subst_res(
     scope: &Scope,
     res: &Res,
 ) -> Result<Res, SubstFault>
-    requires safe { AreSafe longest (map put_in put.now) (terms_of_res (before_of scope.now) (res_of res.now)) 0 (before_of scope.now) (after_of scope.now) }
+    requires safe { AreSafeIn longest put.now scope.now (terms_of_res (before_of scope.now) (res_of res.now)) }
     requires short { IsShortRes longest (res_of res.now) }
     requires put_short { ArePutShort longest (map put_in put.now) }
-    ensures ok { IfOk result (λ put_res. IsResLike (IsRenamed (map put_in put.now)) (IsNormalPut (map put_in put.now)) (before_of scope.now) (after_of scope.now) (res_of res.now) (res_of put_res)) }
-    ensures places { IfOk result (λ put_res. Each (IsPlaced put.now) (pieces_of_res (before_of scope.now) res.now) (pieces_of_res (after_of scope.now) put_res)) }
-    ensures err { IfErr result (λ fault. fault ≡ cause.TooLarge → AllFit (map put_in put.now) (terms_of_res (before_of scope.now) (res_of res.now)) → ⊥) }
+    ensures ok { IfOk result (λ put_res. ResLike put.now scope.now res.now put_res) }
+    ensures places { IfOk result (λ put_res. Keeps put.now scope.now (λ b. pieces_of_res b res.now) (λ b. pieces_of_res b put_res)) }
+    ensures err { IfErr result (λ fault. IsMisfit fault (ResFits put.now scope.now (res_of res.now))) }
 {
     let group = binders(alloc, longest, put, scope, res)?;
     let scope = joined(alloc, group, scope)?;
@@ -327,7 +327,7 @@ pub fn subst(alloc: Global, res: &Res, names: &Idents, by: &Terms) -> Result<Res
     requires { length names.now ≡ length by.now }
     ensures ok { IfOk result (λ put. IsSubst (put_of names.now (map term_of by.now)) (res_of res.now) (res_of put)) }
     ensures places { IfOk result (λ put. ArePlaced names.now by.now (pieces_of_res [] res.now) (pieces_of_res [] put)) }
-    ensures err { IfErr result (λ fault. fault ≡ cause.TooLarge → AllFit (put_of names.now (map term_of by.now)) (terms_of_res [] (res_of res.now)) → ⊥) }
+    ensures err { IfErr result (λ fault. IsMisfit fault (AllFit (put_of names.now (map term_of by.now)) (terms_of_res [] (res_of res.now)))) }
 {
     let put = puts_of(alloc, names, by)?;
     let longest = with_res(longest_put(put.as_slice()), res);
@@ -345,7 +345,7 @@ pub fn subst_terms(
     requires { length names.now ≡ length by.now }
     ensures ok { IfOk result (λ put. Each (IsNormalPut (put_of names.now (map term_of by.now)) [] []) (map term_of terms.now) (map term_of put)) }
     ensures places { IfOk result (λ put. ArePlaced names.now by.now (map (Words []) terms.now) (map (Words []) put)) }
-    ensures err { IfErr result (λ fault. fault ≡ cause.TooLarge → All (Fits (put_of names.now (map term_of by.now)) []) (map term_of terms.now) → ⊥) }
+    ensures err { IfErr result (λ fault. IsMisfit fault (All (Fits (put_of names.now (map term_of by.now)) []) (map term_of terms.now))) }
 {
     let put = puts_of(alloc, names, by)?;
     let scope: Scope = Items::new(alloc);

@@ -4,7 +4,7 @@ ghost use Rattle.core_language.specs.Names.{Ident as Name, same};
 ghost use Rattle.core_language.specs.Terms.{Term as Sum};
 ghost use Rattle.linear_forms.specs.Replacing.{counting};
 ghost use Rattle.substitution.specs.Places.{Token};
-ghost use Rattle.substitution.specs.Sums.{sum_at, span_at, HasSums, HasPlaces, IsWithin};
+ghost use Rattle.substitution.specs.Sums.{sum_at, span_at, HasSums, HasPlaces, Adds, Meets, IsWithin};
 
 use chan_base::{Memory, Span};
 use chan_syntax::Ident;
@@ -42,7 +42,7 @@ impl Summands {
         requires weight { unsigned_abs weight ≤ 2 ^ 63 }
         requires times { unsigned_abs times ≤ 2 ^ 63 }
         requires within { IsWithin (2 ^ 247) self.old }
-        ensures sums { (sum : Sum) → HasSums self.old sum → HasSums self.new (sum ++ counting (weight *ℤ times) None ∷ []) }
+        ensures sums { Adds self.old self.new (counting (weight *ℤ times) None ∷ []) }
         ensures within { (size : ℕ) → IsWithin size self.old → IsWithin (size + 2 ^ 126) self.new }
         ensures places { (tokens : List Token) → HasPlaces self.old tokens → HasPlaces self.new tokens }
     {
@@ -77,9 +77,9 @@ impl Summands {
         requires weight { unsigned_abs weight ≤ 2 ^ 63 }
         requires times { unsigned_abs times ≤ 2 ^ 63 }
         requires within { IsWithin (2 ^ 247) self.old }
-        ensures sums { OnOk result ((sum : Sum) → HasSums self.old sum → HasSums self.new (sum ++ counting (weight *ℤ times) (Some name.now) ∷ [])) }
+        ensures sums { OnOk result (Adds self.old self.new (counting (weight *ℤ times) (Some name.now) ∷ [])) }
         ensures within { OnOk result ((size : ℕ) → IsWithin size self.old → IsWithin (size + 2 ^ 126) self.new) }
-        ensures places { OnOk result ((tokens : List Token) → HasPlaces self.old tokens → HasPlaces self.new (tokens ++ record { name = name.now; place = span } ∷ [])) }
+        ensures places { OnOk result (Meets self.old self.new (record { name = name.now; place = span } ∷ [])) }
     {
         let mut summand = self.take(name, span);
         summand.sum.add_product(weight, times);

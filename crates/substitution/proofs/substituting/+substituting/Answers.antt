@@ -1,6 +1,6 @@
-use Rattle.std.proofs.Common.{◌≡◌, rules, length, take, map, refl, sym, ◌∙◌, ap}
+use Rattle.std.proofs.Common.{rules, length, take, map, refl, sym, ◌∙◌, ap}
 use Rattle.std.proofs.lemmas.Result.{err_from_is_err_and}
-use Rattle.chan_syntax.specs.Reading.{term_of, bound_of, ref_of, shape_of, res_of}
+use Rattle.chan_syntax.specs.Reading.{bound_of, ref_of, shape_of, res_of}
 use Rattle.chan_syntax.specs.declared.resources.Shape.{the_lemmas}
 use Rattle.chan_syntax.specs.declared.resources.Shape.TheVariants as shape
 use Rattle.linear_forms.specs.Substitution.{IsRenamed, IsNormalPut, AllFit, IsResLike, terms_of_res}
@@ -57,6 +57,9 @@ subst_res-returns-clause-places t c =
 pub subst_shape-subst_end-requires : goal.subst_shape-subst_end-requires
 subst_shape-subst_end-requires t c =
     rw c.as_slice-in-End.ensures (end_ready c.args.longest (map put_in c.args.put.now) (before_of c.args.scope.now) (after_of c.args.scope.now) (shape_of c.args.shape.now) (ref_of c.in-End.end) (ap shape_of c.in-End.is) c.requires.put_short c.requires.safe c.requires.short)
+
+pub subst_shape-returns-in-End-clause-err : goal.subst_shape-returns-in-End-clause-err
+subst_shape-returns-in-End-clause-err t c = rw (ap shape_of c.in-End.is) (rw c.as_slice-in-End.ensures at c.subst_end.ensures.err)
 
 pub subst_shape-subst_boxed-requires : goal.subst_shape-subst_boxed-requires
 subst_shape-subst_boxed-requires t c =
