@@ -4,6 +4,8 @@
 #[cfg(test)]
 mod configurations;
 #[cfg(test)]
+mod names;
+#[cfg(test)]
 mod programs;
 #[cfg(test)]
 mod runs;

@@ -6,8 +6,6 @@ mod endings;
 #[cfg(test)]
 mod formats;
 #[cfg(test)]
-mod names;
-#[cfg(test)]
 mod replays;
 #[cfg(test)]
 mod runs;
