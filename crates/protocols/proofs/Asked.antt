@@ -22,7 +22,7 @@ use Rattle.chan_syntax.specs.Bounds.{mention_in, cert_in}
 use Rattle.chan_syntax.specs.Reading.{term_of, cert_of}
 use Rattle.chan_syntax.specs.declared.linear.Term as written
 use Rattle.chan_syntax.specs.declared.operands.WrittenCert.{WrittenCert}
-use Rattle.outline_rules.specs.Naming.{int_var_of, int_names_of}
+use Rattle.outline_rules.specs.Naming.{int_names_of}
 use Rattle.outline_rules.specs.declared.naming.IntNames as context
 use Rattle.protocols.specs.Unfolding.{asked_term, NamesOnly, mention_for, taken, BranchNotProved}
 
@@ -77,11 +77,20 @@ never row x e = pick (row_fits row) e
     pick true f = absurd cc
     pick false f = absurd cc
 
+-- a term whose names are integers has no fault of a name
+pub never_unknown : (names : IntNames) (term : Term) (x : Ident) → not_int names term ≡ None → normal_of names term ≡ Err (form.NotInt x) → ⊥
+never_unknown names term x ints e = never (normal_form names term) x (sym (ap (λ o. normal_if o (normal_form names term)) ints) ∙ e)
+
 -- each name of what is asked is an integer
-pub never_not_int : (names : context.IntNames) (term : written.Term) (params : List Ident) (args : List Term) (letter : operand.Letter) (left right : Term) (x : Ident) → map int_var_of names.vars ≡ put_of params args → length args ≡ length params → term_of term ≡ asked_term letter left right → NamesOnly params left → NamesOnly params right → normal_of (int_names_of names) (term_of term) ≡ Err (form.NotInt x) → ⊥
-never_not_int names term params args letter left right x vars l is h k e =
-    let ints : not_int (int_names_of names) (term_of term) ≡ None = rw (vars, is) (asked_is_int names.ints params args letter left right l h k) in
-    never (normal_form (int_names_of names) (term_of term)) x (sym (ap (λ o. normal_if o (normal_form (int_names_of names) (term_of term))) ints) ∙ e)
+pub all_known : (names : context.IntNames) (term : written.Term) (ints params : List Ident) (args : List Term) (letter : operand.Letter) (left right : Term) → int_names_of names ≡ record { ints = ints; vars = put_of params args } → length args ≡ length params → term_of term ≡ asked_term letter left right → NamesOnly params left → NamesOnly params right → not_int (int_names_of names) (term_of term) ≡ None
+all_known names term ints params args letter left right is l asked h k =
+    subst (λ (t : Term). not_int (int_names_of names) t ≡ None) (sym asked)
+    (subst (λ (known : IntNames). not_int known (asked_term letter left right) ≡ None) (sym is) (asked_is_int ints params args letter left right l h k))
+
+-- the row of what is asked
+pub row_asked : (names : context.IntNames) (term : written.Term) (ints : List Ident) (put : List IntVar) (letter : operand.Letter) (left right : Term) → int_names_of names ≡ record { ints = ints; vars = put } → term_of term ≡ asked_term letter left right → normal_form (int_names_of names) (term_of term) ≡ normal_form (record { ints = ints; vars = put }) (asked_term letter left right)
+row_asked names term ints put letter left right is asked =
+    ap (λ (known : IntNames). normal_form known (term_of term)) is ∙ ap (normal_form (record { ints = ints; vars = put })) asked
 
 pub as_many : (args : List written.Term) (params : List Ident) → length args ≡ length params → length (map term_of args) ≡ length params
 as_many args params l = rw (length-map args term_of) l

@@ -1,13 +1,11 @@
 -- Where the parts of messages and of ends that are followed stand.
-use Rattle.std.proofs.Common.{◌≡◌, ℕ, ◌+◌, ◌<◌, ◌≤◌, Bool, true, false, if◌then◌else◌, List, [], ◌∷◌, ◌++◌, drop, get_or, length, Option, Some, None, option_map, refl, sym, ◌∙◌, ap, subst}
-use Rattle.linear_forms.specs.Substitution.{Each, IsNormalPut, IsRefLike}
+use Rattle.std.proofs.Common.{◌≡◌, ℕ, ◌+◌, ◌<◌, ◌≤◌, List, drop, get_or, length, Option, Some, None, option_map, refl, sym, ap, subst}
 use Rattle.chan_syntax.specs.declared.operands.Letter.{Letter}
 use Rattle.chan_syntax.specs.declared.resources.Ref.{Ref}
 use Rattle.chan_syntax.specs.declared.resources.Res.{Res}
 use Rattle.chan_syntax.specs.declared.resources.Equation.{Equation}
 use Rattle.chan_syntax.specs.declared.resources.Equation.TheVariants as equation
 use Rattle.chan_syntax.specs.declared.resources.Proto.{Proto}
-use Rattle.substitution.specs.Places.{pieces_of_res}
 use Rattle.protocols.specs.Places.{other_end, other_equation, pieces_with_end, pieces_of_message, LeadsTo, LeadTo}
 use Rattle.protocols.proofs.Letters.{drop_next}
 use Rattle.protocols.proofs.Stepping.{none_left}

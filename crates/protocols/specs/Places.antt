@@ -1,5 +1,5 @@
 -- Where the parts of duals, and of ends that are followed, stand in a text.
-use Rattle.std.specs.Prelude.{◌≡◌, not, if◌then◌else◌, List, [], ◌∷◌, ◌++◌, map, find, Option, Some, None}
+use Rattle.std.specs.Prelude.{◌≡◌, not, List, [], ◌∷◌, ◌++◌, map, find, Option, Some, None}
 use Rattle.std.specs.Option.{option_map}
 use Rattle.core_language.specs.Names.{Ident, same}
 use Rattle.linear_forms.specs.Terms.{put_of}

@@ -1,14 +1,14 @@
 //! What a letter of a path asks for, and whether it is shown.
-ghost use Rattle.std.specs.Prelude.{◌≡◌, ◌++◌, ◌∷◌, [], suc, pos, int_le, true, false, All, length, map, Some, Ok, Err, OnOk, IfOk, IfErr};
+ghost use Rattle.std.specs.Prelude.{◌≡◌, ◌++◌, ◌∷◌, [], suc, pos, int_le, true, false, All, length, map, Some, None, Ok, Err, OnOk, IfOk, IfErr};
 ghost use Rattle.std.specs.List.{list_all};
 ghost use Rattle.std.specs.Ordering.{int_eq};
 ghost use Rattle.farkas_check.specs.Rows.{IsNarrow};
-ghost use Rattle.linear_forms.specs.Terms.{negated, put_of, less, one};
-ghost use Rattle.linear_forms.specs.Normal.{row_fits};
+ghost use Rattle.linear_forms.specs.Normal.{not_int, row_fits};
 ghost use Rattle.linear_forms.specs.Substitution.{Fits};
+ghost use Rattle.linear_forms.specs.Terms.{negated, less, one, put_of, normal_form};
 ghost use Rattle.chan_syntax.specs.Bounds.{IsBounded};
 ghost use Rattle.chan_syntax.specs.Reading.{part_of, term_of, letter_of, cert_of};
-ghost use Rattle.outline_rules.specs.Naming.{int_var_of};
+ghost use Rattle.outline_rules.specs.Naming.{int_names_of, int_var_of};
 ghost use Rattle.substitution.specs.declared.faults.SubstFault.TheVariants as cause;
 ghost use Rattle.protocols.specs.Unfolding as spec;
 ghost use Rattle.protocols.specs.Unfolding.{NamesOnly, IsFormed};
@@ -113,6 +113,36 @@ fn asked_term(alloc: Global, letter: Letter, left: &Term, right: &Term) -> Resul
     })
 }
 
+/// The integers of a setting, and the parameters with their arguments.
+fn context_of(
+    alloc: Global,
+    setting: &Setting<'_>,
+    params: &Idents,
+    args: &Terms,
+) -> Result<IntNames, Memory>
+    requires { length args.now ≡ length params.now }
+    ensures { IfOk result (λ names. int_names_of names ≡ record { ints = setting.now.ints.now; vars = put_of params.now (map term_of args.now) }) }
+{
+    let ints = copy_names(alloc, setting.ints)?;
+    let vars = arguments(alloc, params, args)?;
+    Ok(IntNames { ints, vars })
+}
+
+/// The row of a term whose names are integers.
+fn row_of(alloc: Global, term: &Term, names: &IntNames) -> Result<Row, SubstFault>
+    requires { not_int (int_names_of names.now) (term_of term.now) ≡ None }
+    ensures row { IfOk result (λ row. row ≡ normal_form (int_names_of names.now) (term_of term.now)) }
+    ensures fits { IfOk result (λ row. row_fits row ≡ true) }
+    ensures err { IfErr result (λ fault. fault ≡ cause.TooLarge → row_fits (normal_form (int_names_of names.now) (term_of term.now)) ≡ false) }
+{
+    match normal(alloc, term, names) {
+        Ok(row) => Ok(row),
+        Err(TermFault::TooLarge) => Err(SubstFault::TooLarge),
+        Err(TermFault::NotInt(_)) => unreachable!(),
+        Err(TermFault::Memory) => Err(SubstFault::Memory),
+    }
+}
+
 /// The row that a letter asks for.
 fn asked_row(
     alloc: Global,
@@ -130,16 +160,9 @@ fn asked_row(
     ensures fits { IfOk result (λ row. row_fits row ≡ true) }
     ensures err { IfErr result (λ fault. fault ≡ cause.TooLarge → row_fits (spec.asked_row (setting_of setting.now) (put_of params.now (map term_of args.now)) (letter_of letter) (term_of left.now) (term_of right.now)) ≡ false) }
 {
-    let names = IntNames {
-        ints: copy_names(alloc, setting.ints)?,
-        vars: arguments(alloc, params, args)?,
-    };
-    match normal(alloc, &asked_term(alloc, letter, left, right)?, &names) {
-        Ok(row) => Ok(row),
-        Err(TermFault::TooLarge) => Err(SubstFault::TooLarge),
-        Err(TermFault::NotInt(_)) => unreachable!(),
-        Err(TermFault::Memory) => Err(SubstFault::Memory),
-    }
+    let names = context_of(alloc, setting, params, args)?;
+    let term = asked_term(alloc, letter, left, right)?;
+    row_of(alloc, &term, &names)
 }
 
 fn both(alloc: Global, left: &Term, right: &Term) -> Result<Terms, Memory>

@@ -6,7 +6,7 @@ use farkas_check::CertFault;
 use std::alloc::AllocError;
 use substitution::SubstFault;
 
-#[derive(Clone, Copy, Debug, PartialEq, Eq)]
+#[derive(Clone, Copy)]
 pub enum UnfoldFault {
     /// The letters are fewer or more than the `if` equations on the way.
     WrongForm,

@@ -1,5 +1,5 @@
 //! The message of an end.
-ghost use Rattle.std.specs.Prelude.{◌≡◌, ◌++◌, ◌∷◌, [], List, true, length, map, IfOk, IfErr};
+ghost use Rattle.std.specs.Prelude.{◌≡◌, ◌++◌, ◌∷◌, [], List, true, length, map, Some, IfOk, IfErr};
 ghost use Rattle.std.specs.Option.{option_map};
 ghost use Rattle.core_language.specs.Names.{Ident as Name};
 ghost use Rattle.core_language.specs.Resources.{Pair, Binds, End};
@@ -11,10 +11,10 @@ ghost use Rattle.protocols.specs.Duals as duals;
 ghost use Rattle.protocols.specs.Heads as heads;
 ghost use Rattle.protocols.specs.Unfolding.{stops, HasArity, HasFormed, IsMessageTooLarge};
 ghost use Rattle.protocols.specs.HeadsOf.{message_in, direction_of, resource_of};
-ghost use Rattle.protocols.specs.Places.{bare_bound, pieces_with_end, pieces_of_message, pieces_of_head, IsHeadPlaced};
+ghost use Rattle.protocols.specs.Places.{bare_bound, other_end, pieces_with_end, pieces_of_message, pieces_of_head, IsHeadPlaced};
 ghost use Rattle.substitution.specs.Places.{Binders, ArePlaced, pieces_of_ref, pieces_of_shape, pieces_of_res};
 
-use crate::duals::{dual_equation, dual_next};
+use crate::duals::dual_equation;
 use crate::paths::proto_named;
 use chan_base::{Memory, Spans};
 use chan_syntax::{Bound, Equation, Idents, Limits, Proto, Ref, Res, Shape, Terms};
@@ -89,6 +89,20 @@ fn equation_of_end(alloc: Global, dual: bool, proto: &Proto) -> Result<Equation,
     Ok(same)
 }
 
+/// What follows a message, with the other mark.
+fn other_next(next: Option<Ref>) -> Option<Ref>
+    ensures dual { option_map ref_of result ≡ option_map duals.dual_ref (option_map ref_of next) }
+    ensures places { result ≡ option_map other_end next }
+{
+    match next {
+        Some(next) => Some(Ref {
+            dual: !next.dual,
+            ..next
+        }),
+        None => None,
+    }
+}
+
 /// The message of an equation that isn't `if`.
 #[tactic(auto, using(crate::proofs::Placing::with_other_end))]
 fn message_of(alloc: Global, equation: Equation) -> Result<Option<Head>, Memory>
@@ -97,14 +111,24 @@ fn message_of(alloc: Global, equation: Equation) -> Result<Option<Head>, Memory>
 {
     match equation {
         Equation::Send(res, next) => {
-            let next = dual_next(alloc, &next)?;
-            Ok(Some(Head::Send(with_end(alloc, res, next)?)))
+            let res = with_end(alloc, res, other_next(next))?;
+            Ok(Some(Head::Send(res)))
         }
         Equation::Recv(res, next) => Ok(Some(Head::Recv(with_end(alloc, res, next)?))),
         Equation::Close => Ok(Some(Head::Send(bare(alloc, Shape::Unit)))),
         Equation::Wait => Ok(Some(Head::Recv(bare(alloc, Shape::Unit)))),
         Equation::Branch(..) => Ok(None),
     }
+}
+
+/// A resource in which arguments stand for parameters.
+fn put_in(alloc: Global, res: Res, params: &Idents, args: &Terms) -> Result<Res, SubstFault>
+    requires { length args.now ≡ length params.now }
+    ensures places { IfOk result (λ put. ArePlaced params.now args.now (pieces_of_res [] res) (pieces_of_res [] put)) }
+    ensures ok { IfOk result (λ put. IsSubst (put_of params.now (map term_of args.now)) (res_of res) (res_of put)) }
+    ensures err { IfErr result (λ fault. fault ≡ cause.TooLarge → AllFit (put_of params.now (map term_of args.now)) (terms_of_res [] (res_of res)) → ⊥) }
+{
+    subst(alloc, &res, params, args)
 }
 
 /// A message in which arguments stand for parameters.
@@ -117,11 +141,11 @@ fn formed(alloc: Global, message: Head, params: &Idents, args: &Terms) -> Result
 {
     match message {
         Head::Send(res) => {
-            let res = subst(alloc, &res, params, args)?;
+            let res = put_in(alloc, res, params, args)?;
             Ok(Head::Send(res))
         }
         Head::Recv(res) => {
-            let res = subst(alloc, &res, params, args)?;
+            let res = put_in(alloc, res, params, args)?;
             Ok(Head::Recv(res))
         }
     }
