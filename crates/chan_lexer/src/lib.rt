@@ -13,6 +13,3 @@ pub use lexed::{Tokens, text_at};
 pub use lexer::tokens;
 pub use text_tokens::TokenKind;
 pub use token::{LexFault, Token, TokenList};
-
-#[cfg(test)]
-mod tests;

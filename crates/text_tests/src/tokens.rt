@@ -1,6 +1,7 @@
+//! Texts and their tokens.
 ghost use Rattle.std.specs.Prelude.{◌<◌, length};
 
-use crate::{Tokens, tokens};
+use chan_lexer::{Tokens, tokens};
 use std::alloc::{AllocError, Global};
 use std::string::String;
 use std::test::Fail;
