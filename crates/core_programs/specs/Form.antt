@@ -1,5 +1,5 @@
 -- The form of a program: five passes, and the first fault of the first pass that finds one.
-use Rattle.std.specs.Prelude.{◌≡◌, ◌⊎◌, ℕ, List, [], Option, Some, None, slice_get}
+use Rattle.std.specs.Prelude.{◌≡◌, ◌⊎◌, ℕ, List, [], ◌∷◌, Option, Some, None, slice_get}
 use Rattle.chan_syntax.specs.declared.resources.Proto.{Proto}
 use Rattle.chan_syntax.specs.declared.operands.Letter.{Letter}
 use Rattle.form_faults.specs.declared.faults.IllKind.TheVariants as kind
@@ -19,28 +19,42 @@ IsUnguarded protos ill =
     (i : ℕ) × (way : List Letter) × (p : Proto) × IsFirstCycle (graph_of protos) i way × (slice_get protos i ≡ Some p)
     × (ill ≡ record { kind = kind.Unguarded; names = names_on protos (Some i) way; span = p.name_span })
 
--- ---- all passes, from the last to the first: no fault, or the first fault of the first pass that finds one
+-- ---- the passes
 
-abbrev pub PassesFrom5 : Parts → Option Ill → Type 0
-PassesFrom5 parts None = main_faults parts ≡ []
-PassesFrom5 parts (Some ill) = IsFirst (main_faults parts) ill
+-- names that are declared twice, what names mean and how many and how large all is, how many there are, cycles of protocols, `main`
+pub data Pass : Type 0 where
+  Twice : Pass
+  Names : Pass
+  Counts : Pass
+  Guards : Pass
+  Mains : Pass
 
-abbrev pub PassesFrom4 : Parts → Option Ill → Type 0
-PassesFrom4 parts None = IsGuarded parts.protos × PassesFrom5 parts None
-PassesFrom4 parts (Some ill) = IsUnguarded parts.protos ill ⊎ (IsGuarded parts.protos × PassesFrom5 parts (Some ill))
+-- the pass finds no fault
+abbrev pub IsSilent : Parts → Pass → Type 0
+IsSilent parts Twice = twice_faults parts ≡ []
+IsSilent parts Names = name_faults parts ≡ []
+IsSilent parts Counts = count_faults parts ≡ []
+IsSilent parts Guards = IsGuarded parts.protos
+IsSilent parts Mains = main_faults parts ≡ []
 
-abbrev pub PassesFrom3 : Parts → Option Ill → Type 0
-PassesFrom3 parts None = (count_faults parts ≡ []) × PassesFrom4 parts None
-PassesFrom3 parts (Some ill) = IsFirst (count_faults parts) ill ⊎ ((count_faults parts ≡ []) × PassesFrom4 parts (Some ill))
+-- the first fault of the pass
+abbrev pub Finds : Parts → Pass → Ill → Type 0
+Finds parts Twice ill = IsFirst (twice_faults parts) ill
+Finds parts Names ill = IsFirst (name_faults parts) ill
+Finds parts Counts ill = IsFirst (count_faults parts) ill
+Finds parts Guards ill = IsUnguarded parts.protos ill
+Finds parts Mains ill = IsFirst (main_faults parts) ill
 
-abbrev pub PassesFrom2 : Parts → Option Ill → Type 0
-PassesFrom2 parts None = (name_faults parts ≡ []) × PassesFrom3 parts None
-PassesFrom2 parts (Some ill) = IsFirst (name_faults parts) ill ⊎ ((name_faults parts ≡ []) × PassesFrom3 parts (Some ill))
+-- what a pass and those behind it find: the first fault of the first pass that finds one, or none
+abbrev pub FoundFrom : Parts → Pass → List Pass → Option Ill → Type 0
+FoundFrom parts pass [] None = IsSilent parts pass
+FoundFrom parts pass [] (Some ill) = Finds parts pass ill
+FoundFrom parts pass (next ∷ later) None = IsSilent parts pass × FoundFrom parts next later None
+FoundFrom parts pass (next ∷ later) (Some ill) = Finds parts pass ill ⊎ (IsSilent parts pass × FoundFrom parts next later (Some ill))
 
--- what all five passes find
+-- what all passes find, in their order
 abbrev pub Passes : Parts → Option Ill → Type 0
-Passes parts None = (twice_faults parts ≡ []) × PassesFrom2 parts None
-Passes parts (Some ill) = IsFirst (twice_faults parts) ill ⊎ ((twice_faults parts ≡ []) × PassesFrom2 parts (Some ill))
+Passes parts found = FoundFrom parts Twice (Names ∷ Counts ∷ Guards ∷ Mains ∷ []) found
 
 -- no pass finds a fault
 abbrev pub HasForm : Parts → Type 0

@@ -1,8 +1,8 @@
 //! The form passes in order.
 
-ghost use Rattle.std.specs.Prelude.{IfOk};
+ghost use Rattle.std.specs.Prelude.{◌≡◌, None, IfOk, IfSome};
+ghost use Rattle.protocol_guard.specs.Guards.{IsFirstCycle, IsGuarded, graph_of};
 ghost use Rattle.core_programs.specs.Formed.{IsNumbered};
-ghost use Rattle.protocol_guard.specs.Guards.{IsFirstCycle, graph_of};
 ghost use Rattle.core_programs.specs.Form as spec;
 
 use crate::nodes::Parts;
@@ -12,12 +12,6 @@ use chan_syntax::Proto;
 use form_faults::{Ill, IllKind};
 use protocol_guard::{FirstCycle, find_cycle, names_of};
 use std::alloc::Global;
-
-fn from_5(alloc: Global, parts: &Parts) -> Option<Ill>
-    ensures { spec.PassesFrom5 parts.now result }
-{
-    find_main(alloc, parts)
-}
 
 /// Unguarded, at the name of the protocol where the cycle starts.
 fn unguarded(alloc: Global, protos: &[Proto], cycle: &FirstCycle) -> Result<Ill, Memory>
@@ -35,45 +29,35 @@ fn unguarded(alloc: Global, protos: &[Proto], cycle: &FirstCycle) -> Result<Ill,
     }
 }
 
-fn from_4(alloc: Global, parts: &Parts) -> Result<Option<Ill>, Memory>
-    ensures { IfOk result (spec.PassesFrom4 parts.now) }
+/// The first of the shortest cycles of protocols.
+fn find_unguarded(alloc: Global, parts: &Parts) -> Result<Option<Ill>, Memory>
+    ensures silent { IfOk result (λ found. found ≡ None → IsGuarded parts.now.protos) }
+    ensures found { IfOk result (λ found. IfSome found (spec.IsUnguarded parts.now.protos)) }
 {
     let protos = parts.protos.as_slice();
-    match find_cycle(alloc, protos)? {
-        Some(cycle) => {
-            let ill = unguarded(alloc, protos, &cycle)?;
-            Ok(Some(ill))
-        }
-        None => Ok(from_5(alloc, parts)),
-    }
+    let Some(cycle) = find_cycle(alloc, protos)? else {
+        return Ok(None);
+    };
+    let ill = unguarded(alloc, protos, &cycle)?;
+    Ok(Some(ill))
 }
 
-fn from_3(alloc: Global, parts: &Parts) -> Result<Option<Ill>, Memory>
-    ensures { IfOk result (spec.PassesFrom3 parts.now) }
-{
-    match find_count(alloc, parts) {
-        Some(ill) => Ok(Some(ill)),
-        None => from_4(alloc, parts),
-    }
-}
-
-fn from_2(alloc: Global, parts: &Parts) -> Result<Option<Ill>, Memory>
-    requires { IsNumbered parts.now }
-    ensures { IfOk result (spec.PassesFrom2 parts.now) }
-{
-    match find_names(alloc, parts)? {
-        Some(ill) => Ok(Some(ill)),
-        None => from_3(alloc, parts),
-    }
-}
-
-/// The first fault of the form of these parts.
+/// The first fault of the form of these parts: that of the first pass that finds one.
 pub fn first_fault(alloc: Global, parts: &Parts) -> Result<Option<Ill>, Memory>
     requires { IsNumbered parts.now }
     ensures { IfOk result (spec.Passes parts.now) }
 {
-    match find_twice(alloc, parts)? {
-        Some(ill) => Ok(Some(ill)),
-        None => from_2(alloc, parts),
+    if let Some(ill) = find_twice(alloc, parts)? {
+        return Ok(Some(ill));
     }
+    if let Some(ill) = find_names(alloc, parts)? {
+        return Ok(Some(ill));
+    }
+    if let Some(ill) = find_count(alloc, parts) {
+        return Ok(Some(ill));
+    }
+    if let Some(ill) = find_unguarded(alloc, parts)? {
+        return Ok(Some(ill));
+    }
+    Ok(find_main(alloc, parts))
 }

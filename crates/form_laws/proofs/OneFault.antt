@@ -13,7 +13,7 @@ use Rattle.protocol_guard.specs.declared.graphs.Turns.{Turns}
 use Rattle.protocol_guard.specs.Guards.{IsGuarded, IsFirstCycle, IsBefore, ThenFirst, graph_of, names_on}
 use Rattle.core_programs.specs.declared.nodes.Parts.{Parts}
 use Rattle.core_programs.specs.Passes.{twice_faults, name_faults, count_faults, main_faults}
-use Rattle.core_programs.specs.Form.{IsUnguarded, PassesFrom5, PassesFrom4, PassesFrom3, PassesFrom2, Passes}
+use Rattle.core_programs.specs.Form.{IsUnguarded, Pass, Twice, Names, Counts, Guards, Mains, IsSilent, Finds, FoundFrom, Passes}
 
 -- ---- the first of a list
 
@@ -115,58 +115,35 @@ no_cycle protos f guarded (i, way, p, first, at, is) = guarded i way first.retur
 
 -- ---- pass by pass
 
--- what a pass finds, or the passes after it
-abbrev Layer : (Ill → Type 0) → Type 0 → (Option Ill → Type 0) → Option Ill → Type 0
-Layer Finds Clean After None = Clean × After None
-Layer Finds Clean After (Some f) = Finds f ⊎ (Clean × After (Some f))
+one_found : (p : Parts) (pass : Pass) (f g : Ill) → Finds p pass f → Finds p pass g → f ≡ g
+one_found p Twice f g a b = one_first (twice_faults p) f g a b
+one_found p Names f g a b = one_first (name_faults p) f g a b
+one_found p Counts f g a b = one_first (count_faults p) f g a b
+one_found p Guards f g a b = one_cycle p.protos f g a b
+one_found p Mains f g a b = one_first (main_faults p) f g a b
 
-one_layer : (Finds : Ill → Type 0) (Clean : Type 0) (After : Option Ill → Type 0) → ((f g : Ill) → Finds f → Finds g → f ≡ g) → ((f : Ill) → Clean → Finds f → ⊥)
-    → ((r s : Option Ill) → After r → After s → r ≡ s) → (r s : Option Ill) → Layer Finds Clean After r → Layer Finds Clean After s → r ≡ s
-one_layer Finds Clean After one apart after None None (clean, more) (clean_too, more_too) = refl
-one_layer Finds Clean After one apart after None (Some g) (clean, more) (inl found) = absurd (apart g clean found)
-one_layer Finds Clean After one apart after None (Some g) (clean, more) (inr (clean_too, more_too)) = after None (Some g) more more_too
-one_layer Finds Clean After one apart after (Some f) None (inl found) (clean, more) = absurd (apart f clean found)
-one_layer Finds Clean After one apart after (Some f) None (inr (clean, more)) (clean_too, more_too) = after (Some f) None more more_too
-one_layer Finds Clean After one apart after (Some f) (Some g) (inl found) (inl found_too) = ap Some (one f g found found_too)
-one_layer Finds Clean After one apart after (Some f) (Some g) (inl found) (inr (clean, more)) = absurd (apart f clean found)
-one_layer Finds Clean After one apart after (Some f) (Some g) (inr (clean, more)) (inl found) = absurd (apart g clean found)
-one_layer Finds Clean After one apart after (Some f) (Some g) (inr (clean, more)) (inr (clean_too, more_too)) = after (Some f) (Some g) more more_too
+none_found : (p : Parts) (pass : Pass) (f : Ill) → IsSilent p pass → Finds p pass f → ⊥
+none_found p Twice f silent found = no_first (twice_faults p) f silent found
+none_found p Names f silent found = no_first (name_faults p) f silent found
+none_found p Counts f silent found = no_first (count_faults p) f silent found
+none_found p Guards f silent found = no_cycle p.protos f silent found
+none_found p Mains f silent found = no_first (main_faults p) f silent found
 
-one_from_5 : (p : Parts) (r s : Option Ill) → PassesFrom5 p r → PassesFrom5 p s → r ≡ s
-one_from_5 p None None a b = refl
-one_from_5 p None (Some g) a b = absurd (no_first (main_faults p) g a b)
-one_from_5 p (Some f) None a b = absurd (no_first (main_faults p) f b a)
-one_from_5 p (Some f) (Some g) a b = ap Some (one_first (main_faults p) f g a b)
-
-layer_4 : (p : Parts) (r : Option Ill) → PassesFrom4 p r → Layer (IsUnguarded p.protos) (IsGuarded p.protos) (PassesFrom5 p) r
-layer_4 p None is = is
-layer_4 p (Some f) is = is
-
-layer_3 : (p : Parts) (r : Option Ill) → PassesFrom3 p r → Layer (IsFirst (count_faults p)) (count_faults p ≡ []) (PassesFrom4 p) r
-layer_3 p None is = is
-layer_3 p (Some f) is = is
-
-layer_2 : (p : Parts) (r : Option Ill) → PassesFrom2 p r → Layer (IsFirst (name_faults p)) (name_faults p ≡ []) (PassesFrom3 p) r
-layer_2 p None is = is
-layer_2 p (Some f) is = is
-
-layer_1 : (p : Parts) (r : Option Ill) → Passes p r → Layer (IsFirst (twice_faults p)) (twice_faults p ≡ []) (PassesFrom2 p) r
-layer_1 p None is = is
-layer_1 p (Some f) is = is
-
-one_from_4 : (p : Parts) (r s : Option Ill) → PassesFrom4 p r → PassesFrom4 p s → r ≡ s
-one_from_4 p r s a b =
-    one_layer (IsUnguarded p.protos) (IsGuarded p.protos) (PassesFrom5 p) (one_cycle p.protos) (no_cycle p.protos) (one_from_5 p) r s (layer_4 p r a) (layer_4 p s b)
-
-one_from_3 : (p : Parts) (r s : Option Ill) → PassesFrom3 p r → PassesFrom3 p s → r ≡ s
-one_from_3 p r s a b =
-    one_layer (IsFirst (count_faults p)) (count_faults p ≡ []) (PassesFrom4 p) (one_first (count_faults p)) (no_first (count_faults p)) (one_from_4 p) r s (layer_3 p r a) (layer_3 p s b)
-
-one_from_2 : (p : Parts) (r s : Option Ill) → PassesFrom2 p r → PassesFrom2 p s → r ≡ s
-one_from_2 p r s a b =
-    one_layer (IsFirst (name_faults p)) (name_faults p ≡ []) (PassesFrom3 p) (one_first (name_faults p)) (no_first (name_faults p)) (one_from_3 p) r s (layer_2 p r a) (layer_2 p s b)
+one_from : (p : Parts) (pass : Pass) (later : List Pass) (r s : Option Ill) → FoundFrom p pass later r → FoundFrom p pass later s → r ≡ s
+one_from p pass [] None None a b = refl
+one_from p pass [] None (Some g) silent found = absurd (none_found p pass g silent found)
+one_from p pass [] (Some f) None found silent = absurd (none_found p pass f silent found)
+one_from p pass [] (Some f) (Some g) a b = ap Some (one_found p pass f g a b)
+one_from p pass (next ∷ later) None None a b = refl
+one_from p pass (next ∷ later) None (Some g) (silent, more) (inl found) = absurd (none_found p pass g silent found)
+one_from p pass (next ∷ later) None (Some g) (silent, more) (inr (silent_too, more_too)) = one_from p next later None (Some g) more more_too
+one_from p pass (next ∷ later) (Some f) None (inl found) (silent, more) = absurd (none_found p pass f silent found)
+one_from p pass (next ∷ later) (Some f) None (inr (silent, more)) (silent_too, more_too) = one_from p next later (Some f) None more more_too
+one_from p pass (next ∷ later) (Some f) (Some g) (inl found) (inl found_too) = ap Some (one_found p pass f g found found_too)
+one_from p pass (next ∷ later) (Some f) (Some g) (inl found) (inr (silent, more)) = absurd (none_found p pass f silent found)
+one_from p pass (next ∷ later) (Some f) (Some g) (inr (silent, more)) (inl found) = absurd (none_found p pass g silent found)
+one_from p pass (next ∷ later) (Some f) (Some g) (inr (silent, more)) (inr (silent_too, more_too)) = one_from p next later (Some f) (Some g) more more_too
 
 -- what the passes find is one
 pub one_outcome : (p : Parts) (r s : Option Ill) → Passes p r → Passes p s → r ≡ s
-one_outcome p r s a b =
-    one_layer (IsFirst (twice_faults p)) (twice_faults p ≡ []) (PassesFrom2 p) (one_first (twice_faults p)) (no_first (twice_faults p)) (one_from_2 p) r s (layer_1 p r a) (layer_1 p s b)
+one_outcome p r s a b = one_from p Twice (Names ∷ Counts ∷ Guards ∷ Mains ∷ []) r s a b
