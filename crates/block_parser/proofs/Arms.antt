@@ -1,6 +1,5 @@
 -- The tags of the arms of a match, and a loop over the arms.
-use Rattle.std.proofs.Common.{◌≡◌, ◌≢◌, ℕ, zero, suc, ◌+◌, ◌-◌, ◌<◌, ◌≤◌, Bool, true, false, cond, List, [], ◌∷◌, ◌++◌, Err, refl, ap, sym, ◌∙◌, append_assoc, append-nil, arith}
-use Rattle.chan_syntax.specs.declared.operands.Pat.{Pat}
+use Rattle.std.proofs.Common.{◌≡◌, ◌≢◌, ℕ, zero, suc, ◌+◌, ◌-◌, ◌<◌, ◌≤◌, true, false, cond, List, [], ◌∷◌, ◌++◌, Err, refl, ap, sym, ◌∙◌, append_assoc, append-nil, arith}
 use Rattle.chan_syntax.specs.declared.surface_tree.SurfaceArm.{SurfaceArm}
 use Rattle.text_tokens.specs.Text.{Token}
 use Rattle.grammar_laws.specs.Grammar.{Outcome, Got, Bad, Deep, Parser, and_then, next_in}

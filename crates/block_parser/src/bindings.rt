@@ -1,17 +1,19 @@
 //! What `let` gives to names, and the statements that come of it.
 
 ghost use Rattle.std.specs.Prelude.{◌≡◌, IfOk};
+ghost use Rattle.chan_syntax.specs.declared.operands.Proof as proof;
+ghost use Rattle.chan_syntax.specs.declared.operands.Supply as supply;
+ghost use Rattle.grammar_laws.specs.Grammar as g;
+ghost use Rattle.surface_grammar.specs.declared.parts.Given.TheVariants as v;
 ghost use Rattle.surface_grammar.specs.Language.{At};
 ghost use Rattle.surface_grammar.specs.Operands as operands;
 ghost use Rattle.surface_grammar.specs.Statements as spec;
 ghost use Rattle.token_cursor.specs.Syntax.{Answers};
 
-use crate::parts::{access, call, target};
+use crate::parts::{access, call, target, value_and_proof};
 use chan_base::Span;
 use chan_syntax::{Pat, Proof, Ref, Stmt, Supply, Term};
-use operand_parser::{
-    bracketed, given_values, more_parts, no_names, number_term, part, proof, value,
-};
+use operand_parser::{bracketed, given_values, more_parts, no_names, number_term, part, proof};
 use sqlite_items::Items;
 use std::alloc::{AllocError, Global};
 use surface_grammar::{
@@ -72,6 +74,22 @@ fn given_term(cursor: &mut Cursor<'_>, depth: usize) -> Result<Given, Stop>
     }
 }
 
+fn sent(cursor: &mut Cursor<'_>, depth: usize) -> Result<Given, Stop>
+    ensures { Answers (At depth (g.seq (λ x (p : supply.Supply × proof.Proof). v.Send x p.0 p.1) spec.target (g.seq (λ x y. (x, y)) operands.value operands.proof)) cursor.old) result cursor.new }
+{
+    let target = target(cursor, depth)?;
+    let (value, proof) = value_and_proof(cursor, depth)?;
+    Ok(Given::Send(target, value, proof))
+}
+
+fn chosen(cursor: &mut Cursor<'_>, depth: usize, arm: u8) -> Result<Given, Stop>
+    ensures { Answers (At depth (g.seq (v.Choose arm) spec.target operands.proof) cursor.old) result cursor.new }
+{
+    let target = target(cursor, depth)?;
+    let proof = proof(cursor, depth)?;
+    Ok(Given::Choose(arm, target, proof))
+}
+
 #[tactic(auto, unfolding(surface_grammar::specs::Statements::numbered_choice, token_cursor::specs::Syntax::arm_number_at, surface_grammar::specs::Grammar::arm_number))]
 fn numbered_choice(cursor: &mut Cursor<'_>, depth: usize) -> Result<Given, Stop>
     ensures { Answers (At depth spec.numbered_choice cursor.old) result cursor.new }
@@ -88,20 +106,13 @@ pub fn given_target(cursor: &mut Cursor<'_>, depth: usize) -> Result<Given, Stop
 {
     if cursor.sees(Word::Send) {
         cursor.skip(Word::Send)?;
-        let target = target(cursor, depth)?;
-        let value = value(cursor, depth)?;
-        let proof = proof(cursor, depth)?;
-        Ok(Given::Send(target, value, proof))
+        sent(cursor, depth)
     } else if cursor.sees(Word::Left) {
         cursor.skip(Word::Left)?;
-        let target = target(cursor, depth)?;
-        let proof = proof(cursor, depth)?;
-        Ok(Given::Choose(0, target, proof))
+        chosen(cursor, depth, 0)
     } else if cursor.sees(Word::Right) {
         cursor.skip(Word::Right)?;
-        let target = target(cursor, depth)?;
-        let proof = proof(cursor, depth)?;
-        Ok(Given::Choose(1, target, proof))
+        chosen(cursor, depth, 1)
     } else if cursor.sees(Word::Hash) {
         cursor.skip(Word::Hash)?;
         numbered_choice(cursor, depth)

@@ -1,12 +1,15 @@
 //! Blocks, and the statements and ends that have blocks in them.
 
 ghost use Rattle.std.specs.Prelude.{◌≡◌, [], ◌∷◌};
+ghost use Rattle.grammar_laws.specs.Grammar as g;
 ghost use Rattle.grammar_laws.specs.Grammar.{next_in};
 ghost use Rattle.surface_grammar.specs.Words.{code};
 ghost use Rattle.surface_grammar.specs.declared.words.Word.TheVariants as w;
-ghost use Rattle.surface_grammar.specs.Grammar.{yes, more_arms_than_two};
+ghost use Rattle.surface_grammar.specs.Grammar.{ABlock, word, ◌▷◌, yes, more_arms_than_two};
 ghost use Rattle.surface_grammar.specs.Language.{At};
+ghost use Rattle.surface_grammar.specs.Operands as operands;
 ghost use Rattle.surface_grammar.specs.Statements as spec;
+ghost use Rattle.surface_grammar.specs.Terms as terms;
 ghost use Rattle.token_cursor.specs.Syntax.{Answers, up_to_turns};
 ghost use Rattle.block_parser.specs.Turns.{arms_turns};
 
@@ -15,7 +18,7 @@ use crate::parts::{access, as_names, at_most, call, loop_params, task_params, tw
 use crate::statements::{
     absurd_last, again_last, close_stmt, print_stmt, ret_last, send1_stmt, tail_last, wait_stmt,
 };
-use chan_syntax::{Block, Blocks, Last, Pat, Stmt, Stmts, SurfaceArm, SurfaceArms};
+use chan_syntax::{Block, Blocks, Last, Pat, Proof, Res, Stmt, Stmts, SurfaceArm, SurfaceArms};
 use operand_parser::{
     bound, bracketed, no_names, pat, proof, reference, res, term_and_number, two_terms,
 };
@@ -23,16 +26,26 @@ use sqlite_items::{Boxed, Items};
 use surface_grammar::{Binding, Forked, Given, NamedGiven, Task, Word};
 use token_cursor::{Cursor, MORE_ARMS_THAN_TWO, Stop};
 
+/// A proof, and the block that it is for.
 #[cycle(block)]
-#[tactic(auto, using(token_cursor::proofs::Opens::block_is), unfolding(surface_grammar::specs::Statements::task, token_cursor::specs::Syntax::name_at, surface_grammar::specs::Grammar::name))]
+#[tactic(auto, using(token_cursor::proofs::Opens::block_is))]
+fn proof_and_block(cursor: &mut Cursor<'_>, depth: usize) -> Result<(Proof, Block), Stop>
+    ensures { Answers (At depth (g.seq (λ x y. (x, y)) operands.proof (g.call ABlock (λ x. x))) cursor.old) result cursor.new }
+{
+    let proof = proof(cursor, depth)?;
+    let block = block(cursor, depth)?;
+    Ok((proof, block))
+}
+
+#[cycle(block)]
+#[tactic(auto, unfolding(surface_grammar::specs::Statements::task, token_cursor::specs::Syntax::name_at, surface_grammar::specs::Grammar::name))]
 fn task(cursor: &mut Cursor<'_>, depth: usize) -> Result<Task, Stop>
     ensures { Answers (At depth spec.task cursor.old) result cursor.new }
 {
     let func = cursor.name()?;
     let bound = bound(cursor, depth)?;
     let (param, starts) = task_params(cursor, depth)?;
-    let proof = proof(cursor, depth)?;
-    let block = block(cursor, depth)?;
+    let (proof, block) = proof_and_block(cursor, depth)?;
     Ok(Task {
         func,
         bound,
@@ -174,9 +187,8 @@ fn stmts(cursor: &mut Cursor<'_>, depth: usize) -> Result<Stmts, Stop>
         if !sees_stmt(cursor) {
             return Ok(found);
         }
-        let next = stmt(cursor, depth)?;
+        found.push(stmt(cursor, depth)?)?;
         cursor.skip(Word::Semicolon)?;
-        found.push(next)?;
     }
     Ok(found)
 }
@@ -379,8 +391,20 @@ fn branch_last(cursor: &mut Cursor<'_>, depth: usize) -> Result<Last, Stop>
     })
 }
 
+/// What follows the parameters of a loop.
 #[cycle(block)]
-#[tactic(auto, using(token_cursor::proofs::Opens::block_is), unfolding(surface_grammar::specs::Statements::loop_last, token_cursor::specs::Syntax::skip, token_cursor::specs::Syntax::name_at, surface_grammar::specs::Grammar::name))]
+#[tactic(auto, unfolding(token_cursor::specs::Syntax::skip))]
+fn loop_rest(cursor: &mut Cursor<'_>, depth: usize) -> Result<(Res, (Proof, Block)), Stop>
+    ensures { Answers (At depth (g.seq (λ x y. (x, y)) (word w.Arrow ▷ terms.res) (g.seq (λ x y. (x, y)) operands.proof (g.call ABlock (λ x. x)))) cursor.old) result cursor.new }
+{
+    cursor.skip(Word::Arrow)?;
+    let result = res(cursor, depth)?;
+    let (proof, block) = proof_and_block(cursor, depth)?;
+    Ok((result, (proof, block)))
+}
+
+#[cycle(block)]
+#[tactic(auto, unfolding(surface_grammar::specs::Statements::loop_last, token_cursor::specs::Syntax::skip, token_cursor::specs::Syntax::name_at, surface_grammar::specs::Grammar::name))]
 fn loop_last(cursor: &mut Cursor<'_>, depth: usize) -> Result<Last, Stop>
     ensures { Answers (At depth spec.loop_last cursor.old) result cursor.new }
 {
@@ -389,10 +413,7 @@ fn loop_last(cursor: &mut Cursor<'_>, depth: usize) -> Result<Last, Stop>
     let named = cursor.name()?;
     let bound = bound(cursor, depth)?;
     let starts = loop_params(cursor, depth)?;
-    cursor.skip(Word::Arrow)?;
-    let result = res(cursor, depth)?;
-    let proof = proof(cursor, depth)?;
-    let block = block(cursor, depth)?;
+    let (result, (proof, block)) = loop_rest(cursor, depth)?;
     Ok(Last::Loop {
         name: named.name,
         name_span: named.span,

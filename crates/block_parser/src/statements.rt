@@ -5,9 +5,9 @@ ghost use Rattle.surface_grammar.specs.Language.{At};
 ghost use Rattle.surface_grammar.specs.Statements as spec;
 ghost use Rattle.token_cursor.specs.Syntax.{Answers};
 
-use crate::parts::{access, call};
+use crate::parts::{access, call, value_and_proof};
 use chan_syntax::{Last, Stmt};
-use operand_parser::{given_values, proof, route, term, value};
+use operand_parser::{given_values, proof, route, term};
 use surface_grammar::Word;
 use token_cursor::{Cursor, Stop};
 
@@ -19,8 +19,7 @@ pub fn send1_stmt(cursor: &mut Cursor<'_>, depth: usize) -> Result<Stmt, Stop>
     cursor.skip(Word::Send1)?;
     let channel = cursor.name()?;
     let route = route(cursor, depth)?;
-    let value = value(cursor, depth)?;
-    let proof = proof(cursor, depth)?;
+    let (value, proof) = value_and_proof(cursor, depth)?;
     Ok(Stmt::Send1 {
         channel: channel.name,
         channel_span: channel.span,
@@ -85,8 +84,7 @@ pub fn ret_last(cursor: &mut Cursor<'_>, depth: usize) -> Result<Last, Stop>
 {
     let start = cursor.mark();
     cursor.skip(Word::Ret)?;
-    let value = value(cursor, depth)?;
-    let proof = proof(cursor, depth)?;
+    let (value, proof) = value_and_proof(cursor, depth)?;
     Ok(Last::Ret {
         value,
         proof,

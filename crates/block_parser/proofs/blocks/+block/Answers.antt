@@ -15,8 +15,8 @@ use Rattle.block_parser.proofs.blocks.+block.Goals as goal
 pub stmts-loop-turn-preserved : goal.stmts-loop-turn-preserved
 stmts-loop-turn-preserved t c =
     turn_on c.args.depth (yes spec.stmt_words) (spec.stmt ◁ word w.Semicolon) c.left-turn-end.result c.loop-turn._turn c.loop-turn.found c.push.new.self
-    c.loop-turn.cursor c.skip.new.self c.in_ok-next.next c.loop-turn-test.true c.loop-turn.invariant (begun _ _ c.sees_stmt.ensures c.if-not-sees_stmt.false)
-    (ended_item c.args.depth spec.stmt c.loop-turn.cursor c.stmt.new.cursor c.skip.new.self c.in_ok-next.next c.in_ok-next.ensures c.in_ok-skip.ensures)
+    c.loop-turn.cursor c.skip.new.self c.in_ok-stmt.field-0 c.loop-turn-test.true c.loop-turn.invariant (begun _ _ c.sees_stmt.ensures c.if-not-sees_stmt.false)
+    (ended_item c.args.depth spec.stmt c.loop-turn.cursor c.stmt.new.cursor c.skip.new.self c.in_ok-stmt.field-0 c.in_ok-stmt.ensures c.in_ok-skip.ensures)
     c.in_ok-push.ensures.ok
 
 -- ---- the arms of a match

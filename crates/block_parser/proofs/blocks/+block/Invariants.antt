@@ -31,14 +31,20 @@ decreases-more_blocks l = 16 * l.depth + 2
 abbrev pub decreases-blocks : goal.decreases-blocks
 decreases-blocks l = 16 * l.depth + 3
 
+abbrev pub decreases-proof_and_block : goal.decreases-proof_and_block
+decreases-proof_and_block l = 16 * l.depth + 1
+
+abbrev pub decreases-loop_rest : goal.decreases-loop_rest
+decreases-loop_rest l = 16 * l.depth + 2
+
 abbrev pub decreases-task : goal.decreases-task
-decreases-task l = 16 * l.depth + 1
+decreases-task l = 16 * l.depth + 2
 
 abbrev pub decreases-loop_last : goal.decreases-loop_last
-decreases-loop_last l = 16 * l.depth + 1
+decreases-loop_last l = 16 * l.depth + 3
 
 abbrev pub decreases-forked : goal.decreases-forked
-decreases-forked l = 16 * l.depth + 2
+decreases-forked l = 16 * l.depth + 3
 
 abbrev pub decreases-if_last : goal.decreases-if_last
 decreases-if_last l = 16 * l.depth + 2
