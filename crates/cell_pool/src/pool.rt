@@ -1,12 +1,11 @@
 //! Retiring a cell, and giving it again.
 ghost use Rattle.std.specs.Prelude.{◌≡◌, ℕ, ◌+◌, ◌^◌, ◌<◌, ◌≤◌, true, [], IfNone, IfSome};
 ghost use Rattle.cell_rules.specs.Lists.{count};
-ghost use Rattle.cell_rules.specs.Marks.{InHand, Right, Free, ClaimCleared, ChanCleared, Reopening};
-ghost use Rattle.cell_rules.specs.Plays.{noted};
+ghost use Rattle.cell_rules.specs.Marks.{InHand, Right};
 ghost use Rattle.cell_rules.specs.Asks.{IsNew};
 ghost use Rattle.one_shot_word.specs.Meaning.{means};
-ghost use Rattle.one_shot_word.specs.Seats.{size, retire_of, IsAt, MayRest};
-ghost use Rattle.one_shot_word.specs.Calls.{Retires, received_by, ended_by, Reopens};
+ghost use Rattle.one_shot_word.specs.Seats.{size, IsAt, HasFree, MayRest};
+ghost use Rattle.one_shot_word.specs.Calls.{RetiresReceived, RetiresEnded, Reopens};
 
 use chan_base::Number;
 use one_shot_word::{Cells, FreeCell, Hand, Load, Parcel, Retired};
@@ -22,10 +21,11 @@ pub fn retire<A, L: Load<A>, P: Parcel<A>>(
     requires small { number.0 + size cells.now ≤ 2 ^ 60 }
     requires received { IfNone ended (0 < count (Right number.0) hand.old.seat.me.0.marks) }
     requires ended { IfSome ended (λ load. (L.meaning.number load.now ≡ number.0) × (L.meaning.ended load.now ≡ true)) }
-    requires has { IfSome ended (λ load. (0 < count (InHand number.0) hand.old.seat.me.0.marks) × MayRest (means L.meaning P.meaning) hand.old.seat.me.0 load.now) }
+    requires has { IfSome ended (λ _. 0 < count (InHand number.0) hand.old.seat.me.0.marks) }
+    requires rest { IfSome ended (λ load. MayRest (means L.meaning P.meaning) hand.old.seat.me.0 load.now) }
     ensures table { hand.new.seat.table_id ≡ hand.old.seat.table_id }
-    ensures received { IfNone ended.entry ((found : ℕ) × Retires number.0 (size cells.now) found result × (hand.new.seat.me ≡ (noted (retire_of cells.now number.0) found (found + 1) (received_by number.0 result hand.old.seat.me.0), []))) }
-    ensures ended { IfSome ended.entry (λ load. (found : ℕ) × Retires number.0 (size cells.now) found result × (hand.new.seat.me ≡ (noted (retire_of cells.now number.0) found (found + 1) (ended_by number.0 load.now result hand.old.seat.me.0), []))) }
+    ensures received { IfNone ended.entry (RetiresReceived (size cells.now) number.0 hand.old.seat.me.0 hand.new.seat.me result) }
+    ensures ended { IfSome ended.entry (λ load. RetiresEnded (size cells.now) number.0 load.now hand.old.seat.me.0 hand.new.seat.me result) }
 {
     match ended {
         None => cells.retire_received(hand, number),
@@ -42,7 +42,7 @@ pub fn reopen<A, L: Load<A>, P: Parcel<A>>(
 ) -> Number
     requires hand { IsAt cells.now hand.old }
     requires cell { (free.next.0 ≡ free.number.0 + size cells.now) × (free.next.0 ≤ 2 ^ 60) }
-    requires free { (0 < count (Free free.number.0) hand.old.seat.me.0.marks) × (count (ClaimCleared free.number.0) hand.old.seat.me.0.marks ≡ 0) × (count (ChanCleared free.number.0) hand.old.seat.me.0.marks ≡ 0) × (count (Reopening free.number.0) hand.old.seat.me.0.marks ≡ 0) }
+    requires free { HasFree hand.old.seat.me.0 free.number.0 }
     requires load { (L.meaning.number load ≡ free.next.0) × IsNew (means L.meaning P.meaning) hand.old.seat.me.0 load }
     ensures table { hand.new.seat.table_id ≡ hand.old.seat.table_id }
     ensures number { result ≡ free.next }

@@ -3,6 +3,8 @@
 
 mod item;
 mod view;
+mod words;
 
 pub use item::Item;
 pub use view::View;
+pub use words::{claimed, done, empty, ended, free, full, halted, parked, ready, running, waiting};

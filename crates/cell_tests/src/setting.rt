@@ -38,6 +38,11 @@ pub fn begun(rt: &(impl Abort + AllocGlobal), cells: &Table, hand: &mut Mine) ->
     number
 }
 
+/// The parcel is that of a channel, with this number of its own.
+pub fn is(note: &Note, channel: Number, serial: u64) -> bool {
+    note.channel == channel && note.serial == serial
+}
+
 /// The load of a number, which has received nothing.
 pub fn taken(rt: &(impl Abort + AllocGlobal), cells: &Table, hand: &mut Mine, number: Number) -> Job
     requires idle { IsIdle cells.now hand.old }

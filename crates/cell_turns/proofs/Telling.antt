@@ -7,19 +7,19 @@ use Rattle.cell_rules.specs.Lists.{In}
 use Rattle.hand_states.specs.Hands.{Store, Holds, Owes}
 use Rattle.hand_states.proofs.Having as having
 use Rattle.hand_states.proofs.Closing as closing
-use Rattle.hand_calls.specs.Answering.{Retiring}
+use Rattle.hand_calls.specs.Answering.{Retiring, Ending}
 use Rattle.one_shot_word.specs.declared.answers.Retired as retired
 use Rattle.one_shot_word.specs.declared.answers.Retired.TheVariants.{First, Free}
 use Rattle.cell_rules.specs.Rule.{fresh}
 use Rattle.cell_rules.specs.Plays.{Sat, noted, spending}
 use Rattle.hand_states.specs.Hands.{Idle}
-use Rattle.hand_calls.specs.At.{told}
+use Rattle.one_shot_word.specs.Seats.{told}
 use Rattle.one_shot_word.specs.Seats.{size}
 use Rattle.one_shot_word.specs.Hands.{IsFirst}
 use Rattle.one_shot_word.specs.declared.cells.Cells.{Cells}
 use Rattle.one_shot_word.specs.declared.hand.Hand.{Hand}
 use Rattle.one_shot_word.specs.declared.answers.FreeCell.{FreeCell}
-use Rattle.cell_turns.specs.Crew.{OfCrew, IsIdle, HasFree, HasSpare, RetiresOne}
+use Rattle.cell_turns.specs.Crew.{OfCrew, IsIdle, HasFree, HasSpare, RetiresOne, EndsOne}
 use Rattle.cell_turns.specs.declared.job.Note.{Note}
 use Rattle.cell_turns.specs.declared.job.Job.{Job}
 use Rattle.cell_turns.specs.Meanings.{numbers, named, meanings}
@@ -104,6 +104,6 @@ pub retires_one : (cells : Cells Job Note ℕ) (hand : Hand Job Note ℕ) (job :
 retires_one cells hand job s m First crew small holds = (crew, small, (s, holds))
 retires_one cells hand job s m (Free freed) crew small does = (crew, small, does.1 ∙ ap (λ z. z + size cells) (sym does.0), (s, subst (λ z. Holds meanings (told cells) (record s { free = z ∷ s.free }) job hand.seat.me.0) (sym does.0) does.2))
 
-pub ends_one : (cells : Cells Job Note ℕ) (hand : Hand Job Note ℕ) (job : Job) (s : Store Job) (freed : FreeCell) → OfCrew cells hand → (freed.number.0 ≡ job.number.0) × (freed.next.0 ≡ job.number.0 + size cells) × Idle meanings (told cells) (record s { kept = job ∷ s.kept; free = job.number.0 ∷ s.free }) hand.seat.me.0
-    → HasFree cells hand freed
-ends_one cells hand job s freed crew does = (crew, does.1 ∙ ap (λ z. z + size cells) (sym does.0), (record s { kept = job ∷ s.kept }, subst (λ z. Idle meanings (told cells) (record s { kept = job ∷ s.kept; free = z ∷ s.free }) hand.seat.me.0) (sym does.0) does.2))
+pub ends_one : (cells : Cells Job Note ℕ) (hand : Hand Job Note ℕ) (job : Job) (s : Store Job) (answer : retired.Retired) → OfCrew cells hand → Ending meanings (told cells) s job (size cells) hand.seat.me.0 answer → EndsOne cells hand answer
+ends_one cells hand job s First crew idle = (crew, (record s { kept = job ∷ s.kept }, idle))
+ends_one cells hand job s (Free freed) crew does = (crew, does.1 ∙ ap (λ z. z + size cells) (sym does.0), (record s { kept = job ∷ s.kept }, subst (λ z. Idle meanings (told cells) (record s { kept = job ∷ s.kept; free = z ∷ s.free }) hand.seat.me.0) (sym does.0) does.2))

@@ -4,8 +4,9 @@ ghost use Rattle.cell_rules.specs.Lists.{In};
 ghost use Rattle.one_shot_word.specs.Seats.{size};
 ghost use Rattle.cell_turns.specs.Crew.{IsIdle, HasFree, HasSpare, HoldsJob, HoldsFree};
 
+use crate::done::Done;
 use crate::job::{Job, Note};
-use crate::turns::{Turns, fork_with, put_home, serve};
+use crate::turns::{fork_with, put_home, serve};
 use chan_base::Number;
 use one_shot_word::{Cells, FreeCell, Hand, State};
 use std::thread::{Threads, join};
@@ -34,8 +35,8 @@ pub fn take_one(
     }
 }
 
-// The same with a free cell in hand.
-fn take_parent(
+/// The same with a free cell in hand.
+pub fn take_parent(
     cells: &Cells<Job, Note, u64>,
     hand: &mut Hand<Job, Note, u64>,
     number: u64,
@@ -57,7 +58,7 @@ fn take_present(
     cells: &Cells<Job, Note, u64>,
     hand: &mut Hand<Job, Note, u64>,
     cell: u64,
-    turns: &mut Turns,
+    done: &mut Done,
 ) -> Option<Job>
     requires idle { IsIdle cells.now hand.old }
     requires small { cell ≤ 2 ^ 60 }
@@ -69,7 +70,7 @@ fn take_present(
         Err(State::Reused(later)) => later,
         Err(_) => return None,
     };
-    turns.stale = turns.stale.wrapping_add(1);
+    done.stale = done.stale.wrapping_add(1);
     if later.0 > MOST {
         return None;
     }
@@ -85,7 +86,7 @@ fn fork_turn(
     hand: &mut Hand<Job, Note, u64>,
     free: FreeCell,
     parent: u64,
-    turns: &mut Turns,
+    done: &mut Done,
 ) -> Option<FreeCell>
     requires free { HasFree cells.now hand.old free }
     requires small { parent ≤ 2 ^ 60 }
@@ -94,8 +95,11 @@ fn fork_turn(
     match take_parent(cells, hand, parent, &free) {
         None => Some(free),
         Some(job) => {
-            turns.sent = turns.sent.wrapping_add(1);
-            fork_with(cells, hand, free, job)
+            let left = fork_with(cells, hand, free, job, done.serial());
+            if left.is_none() {
+                done.sent = done.sent.wrapping_add(1);
+            }
+            left
         }
     }
 }
@@ -105,23 +109,23 @@ fn serve_turn(
     cells: &Cells<Job, Note, u64>,
     hand: &mut Hand<Job, Note, u64>,
     cell: u64,
-    turns: &mut Turns,
+    done: &mut Done,
 ) -> Option<FreeCell>
     requires idle { IsIdle cells.now hand.old }
     requires small { cell ≤ 2 ^ 60 }
     ensures { HasSpare cells.now hand.new result }
 {
-    let Some(job) = take_present(cells, hand, cell, turns) else {
+    let Some(job) = take_present(cells, hand, cell, done) else {
         return None
     };
-    turns.taken = turns.taken.wrapping_add(1);
+    done.taken = done.taken.wrapping_add(1);
     if job.number.0 < PARENTS || job.number.0 > MOST {
         put_home(cells, hand, job);
         return None;
     }
     let (free, got) = serve(cells, hand, job);
-    if got {
-        turns.received = turns.received.wrapping_add(1);
+    if let Some(note) = got {
+        done.keep(note);
     }
     free
 }
@@ -131,28 +135,29 @@ fn turn(
     hand: &mut Hand<Job, Note, u64>,
     spare: Option<FreeCell>,
     cell: u64,
-    turns: &mut Turns,
+    done: &mut Done,
 ) -> Option<FreeCell>
     requires spare { HasSpare cells.now hand.old spare }
     requires small { cell ≤ 2 ^ 60 }
     ensures { HasSpare cells.now hand.new result }
 {
     match spare {
-        Some(free) => fork_turn(cells, hand, free, cell % PARENTS, turns),
-        None => serve_turn(cells, hand, cell, turns),
+        Some(free) => fork_turn(cells, hand, free, cell % PARENTS, done),
+        None => serve_turn(cells, hand, cell, done),
     }
 }
 
-/// So many turns of one hand.
+/// So many turns of one hand, whose parcels are numbered from the first on.
 pub fn work(
     cells: &Cells<Job, Note, u64>,
     mut hand: Hand<Job, Note, u64>,
     turns: u64,
-) -> (Hand<Job, Note, u64>, Turns)
+    first: u64,
+) -> (Hand<Job, Note, u64>, Done)
     requires { IsIdle cells.now hand }
     ensures { IsIdle cells.now result.0 }
 {
-    let mut done = Turns::none();
+    let mut done = Done::nothing(cells.alloc, first);
     let mut spare = None;
     for i in 0..turns {
         spare = turn(cells, &mut hand, spare, i % 64, &mut done);
@@ -160,26 +165,28 @@ pub fn work(
     (hand, done)
 }
 
-/// Both hands work at once.
+/// Both hands work at once. Their parcels are numbered from the count of cells on, those of the second hand so many turns later.
 pub fn both<R: Threads + Sync>(
     rt: &R,
     cells: &Cells<Job, Note, u64>,
     first: Hand<Job, Note, u64>,
     second: Hand<Job, Note, u64>,
     turns: u64,
-) -> ((Hand<Job, Note, u64>, Turns), (Hand<Job, Note, u64>, Turns))
+) -> ((Hand<Job, Note, u64>, Done), (Hand<Job, Note, u64>, Done))
     requires { IsIdle cells.now first × IsIdle cells.now second }
     ensures { IsIdle cells.now result.0.0 × IsIdle cells.now result.1.0 }
 {
+    let start = cells.cells;
+    let later = start.wrapping_add(turns);
     join(
         rt,
-        || -> (Hand<Job, Note, u64>, Turns)
+        || -> (Hand<Job, Note, u64>, Done)
             requires { IsIdle cells.now first }
             ensures { IsIdle cells.entry.now result.0 }
-        { work(cells, first, turns) },
-        || -> (Hand<Job, Note, u64>, Turns)
+        { work(cells, first, turns, start) },
+        || -> (Hand<Job, Note, u64>, Done)
             requires { IsIdle cells.now second }
             ensures { IsIdle cells.entry.now result.0 }
-        { work(cells, second, turns) },
+        { work(cells, second, turns, later) },
     )
 }

@@ -34,7 +34,7 @@ pub fn open_two(
     Some((cells, first, second))
 }
 
-/// The task of a number sends on its own channel.
+/// The task of a number sends on its own channel, a parcel with its number.
 pub fn seed(cells: &Cells<Job, Note, u64>, hand: &mut Hand<Job, Note, u64>, number: u64)
     requires idle { IsIdle cells.now hand.old }
     requires small { number ≤ 2 ^ 60 }
@@ -43,7 +43,7 @@ pub fn seed(cells: &Cells<Job, Note, u64>, hand: &mut Hand<Job, Note, u64>, numb
     let Ok(job) = take_one(cells, hand, number) else {
         return
     };
-    send_own(cells, hand, &job);
+    send_own(cells, hand, &job, number);
     put_home(cells, hand, job);
 }
 

@@ -24,7 +24,9 @@ impl Job {
     }
 }
 
+/// A parcel, with a number of its own beside its channel's.
 #[derive(Drop)]
 pub struct Note {
     pub channel: Number,
+    pub serial: u64,
 }

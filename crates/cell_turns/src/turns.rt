@@ -1,33 +1,13 @@
 //! What a hand does with a load that it took.
-ghost use Rattle.std.specs.Prelude.{◌≡◌, ℕ, ◌+◌, ◌^◌, ◌<◌, ◌≤◌, true, [], Some, None};
+ghost use Rattle.std.specs.Prelude.{◌≡◌, ℕ, ◌+◌, ◌^◌, ◌<◌, ◌≤◌, true, List, [], Some, None};
 ghost use Rattle.cell_rules.specs.Lists.{In};
 ghost use Rattle.one_shot_word.specs.Seats.{size};
-ghost use Rattle.cell_turns.specs.Crew.{IsIdle, HasFree, HasSpare, HoldsJob, HoldsFree, HoldsRight, Replies, RetiresOne};
+ghost use Rattle.cell_turns.specs.Crew.{IsIdle, HasFree, HasSpare, HoldsJob, HoldsFree, HoldsRight, Replies, RetiresOne, EndsOne};
 
 use crate::crew::MOST;
 use crate::job::{Job, Note};
 use chan_base::Number;
 use one_shot_word::{Cells, FreeCell, Got, Hand, Place, Retired, Sent};
-
-/// How often the calls were made that tell of a message.
-#[derive(Clone, Copy)]
-pub struct Turns {
-    pub taken: u64,
-    pub stale: u64,
-    pub sent: u64,
-    pub received: u64,
-}
-
-impl Turns {
-    pub fn none() -> Turns {
-        Turns {
-            taken: 0,
-            stale: 0,
-            sent: 0,
-            received: 0,
-        }
-    }
-}
 
 /// Puts a load home, to be taken again.
 pub fn put_home(cells: &Cells<Job, Note, u64>, hand: &mut Hand<Job, Note, u64>, job: Job)
@@ -37,12 +17,30 @@ pub fn put_home(cells: &Cells<Job, Note, u64>, hand: &mut Hand<Job, Note, u64>, 
     hand_calls::home(cells, hand, job, Place::Ready);
 }
 
+/// Gives a free cell again, with the first load of its next number.
+pub fn reopen_next(
+    cells: &Cells<Job, Note, u64>,
+    hand: &mut Hand<Job, Note, u64>,
+    cell: FreeCell,
+    parent: &Job,
+) -> Number
+    requires free { HoldsFree cells.now hand.old parent.now cell }
+    requires small { cell.next.0 ≤ 2 ^ 60 }
+    ensures number { result ≡ cell.next }
+    ensures holds { HoldsJob cells.now hand.new parent.now }
+    ensures names { In (cell.next.0, []) hand.new.seat.me.0.names }
+{
+    let child = Job::first(cell.next());
+    hand_calls::reopen(cells, hand, cell, child, parent)
+}
+
 /// A parent forks a child in a free cell, sends to it, and goes home. Where no number is left the cell comes back.
 pub fn fork_with(
     cells: &Cells<Job, Note, u64>,
     hand: &mut Hand<Job, Note, u64>,
     cell: FreeCell,
     job: Job,
+    serial: u64,
 ) -> Option<FreeCell>
     requires { HoldsFree cells.now hand.old job cell }
     ensures { HasSpare cells.now hand.new result }
@@ -52,9 +50,8 @@ pub fn fork_with(
         put_free_home(cells, hand, &cell, job);
         return Some(cell);
     }
-    let child = Job::first(next);
-    hand_calls::reopen(cells, hand, cell, child, &job);
-    send_to(cells, hand, next, &job);
+    let child = reopen_next(cells, hand, cell, &job);
+    send_to(cells, hand, child, &job, serial);
     put_home(cells, hand, job);
     None
 }
@@ -65,12 +62,17 @@ pub fn send_to(
     hand: &mut Hand<Job, Note, u64>,
     number: Number,
     job: &Job,
+    serial: u64,
 ) -> Sent<Note>
     requires holds { HoldsJob cells.now hand.old job.now }
     requires number { (number.0 ≤ 2 ^ 60) × In (number.0, []) hand.old.seat.me.0.names }
     ensures { HoldsJob cells.now hand.new job.now }
 {
-    hand_calls::send(cells, hand, number, Note { channel: number }, job)
+    let note = Note {
+        channel: number,
+        serial,
+    };
+    hand_calls::send(cells, hand, number, note, job)
 }
 
 /// Receives on a number. The load that comes back with a value tells it as received.
@@ -83,7 +85,8 @@ pub fn receive(
     requires holds { HoldsJob cells.now hand.old job }
     requires number { (number.0 ≤ 2 ^ 60) × In (number.0, []) hand.old.seat.me.0.names }
     requires new { job.got ≡ None }
-    ensures { Replies cells.now hand.new job.number.0 number.0 result }
+    ensures replies { Replies cells.now hand.new job.number.0 number.0 result }
+    ensures more { (e : ℕ × List ℕ) → In e hand.old.seat.me.0.names → In e hand.new.seat.me.0.names }
 {
     match hand_calls::recv(cells, hand, number, job) {
         Got::Parked => Got::Parked,
@@ -111,12 +114,13 @@ pub fn send_own(
     cells: &Cells<Job, Note, u64>,
     hand: &mut Hand<Job, Note, u64>,
     job: &Job,
+    serial: u64,
 ) -> Sent<Note>
     requires { HoldsJob cells.now hand.old job.now }
     ensures { HoldsJob cells.now hand.new job.now }
 {
     let number = job.number;
-    send_to(cells, hand, number, job)
+    send_to(cells, hand, number, job, serial)
 }
 
 /// Receives once more on the load's own number.
@@ -132,8 +136,8 @@ pub fn receive_again(
     hand_calls::recv(cells, hand, number, job)
 }
 
-/// The same load, which tells that it received on a number.
-pub fn told(job: Job, got: Number) -> Job
+// The same load, which tells that it received on a number.
+fn told(job: Job, got: Number) -> Job
     ensures { (result.number ≡ job.number) × (result.got ≡ Some got) }
 {
     let Job { number, ended, .. } = job;
@@ -163,16 +167,13 @@ pub fn retire_ended(
     cells: &Cells<Job, Note, u64>,
     hand: &mut Hand<Job, Note, u64>,
     job: Job,
-) -> Option<FreeCell>
+) -> Retired
     requires holds { HoldsJob cells.now hand.old job }
     requires small { job.number.0 + size cells.now ≤ 2 ^ 60 }
-    ensures { HasSpare cells.now hand.new result }
+    ensures { EndsOne cells.now hand.new result }
 {
     let job = ended(job);
-    match hand_calls::retire_ended(cells, hand, &job) {
-        Retired::First => None,
-        Retired::Free(cell) => Some(cell),
-    }
+    hand_calls::retire_ended(cells, hand, &job)
 }
 
 fn ended(job: Job) -> Job
@@ -191,7 +192,7 @@ pub fn serve(
     cells: &Cells<Job, Note, u64>,
     hand: &mut Hand<Job, Note, u64>,
     job: Job,
-) -> (Option<FreeCell>, bool)
+) -> (Option<FreeCell>, Option<Note>)
     requires holds { HoldsJob cells.now hand.old job }
     requires small { job.number.0 + size cells.now ≤ 2 ^ 60 }
     ensures { HasSpare cells.now hand.new result.0 }
@@ -199,15 +200,15 @@ pub fn serve(
     let number = job.number;
     if job.got.is_some() {
         put_home(cells, hand, job);
-        return (None, false);
+        return (None, None);
     }
     match receive_own(cells, hand, job) {
-        Got::Parked => (None, false),
+        Got::Parked => (None, None),
         Got::Misused(job, _) => {
             put_home(cells, hand, job);
-            (None, false)
+            (None, None)
         }
-        Got::Value(job, _) => (finish(cells, hand, number, job), true),
+        Got::Value(job, note) => (finish(cells, hand, number, job), Some(note)),
     }
 }
 
@@ -223,7 +224,10 @@ fn finish(
     ensures { HasSpare cells.now hand.new result }
 {
     match retire_received(cells, hand, number, &job) {
-        Retired::First => retire_ended(cells, hand, job),
+        Retired::First => match retire_ended(cells, hand, job) {
+            Retired::First => None,
+            Retired::Free(cell) => Some(cell),
+        },
         Retired::Free(cell) => {
             put_free_home(cells, hand, &cell, job);
             Some(cell)
@@ -231,8 +235,8 @@ fn finish(
     }
 }
 
-// Puts a load home, with a free cell in hand.
-fn put_free_home(
+/// Puts a load home, with a free cell in hand.
+pub fn put_free_home(
     cells: &Cells<Job, Note, u64>,
     hand: &mut Hand<Job, Note, u64>,
     cell: &FreeCell,

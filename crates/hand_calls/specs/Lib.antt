@@ -1,2 +1,2 @@
-pub mod At
 pub mod Answering
+pub mod Moves

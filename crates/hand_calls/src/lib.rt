@@ -4,14 +4,14 @@
 ghost use Rattle.std.specs.Prelude.{◌≡◌, ℕ, ◌+◌, ◌^◌, ◌≤◌, true, List, ◌∷◌, IfOk, IfErr};
 ghost use Rattle.cell_rules.specs.Lists.{In};
 ghost use Rattle.cell_rules.specs.Asks.{IsNew, KnowsParcel, Names};
-ghost use Rattle.hand_states.specs.Hands.{Store, Idle, Holds};
 ghost use Rattle.one_shot_word.specs.Meaning.{means};
 ghost use Rattle.one_shot_word.specs.Seats.{size, IsAt};
-ghost use Rattle.hand_calls.specs.At.{told};
-ghost use Rattle.hand_calls.specs.Answering.{Receiving, Retiring, Ending};
+ghost use Rattle.hand_calls.specs.Moves.{HasLoad, HasRight, HasFree, StaysIdle, StaysHolding, TakesLoad, GoesHome};
+ghost use Rattle.hand_calls.specs.Moves.{Receives, Retires, Ends, Reopens};
 
+use cell_pool::{FreeCell, Retired};
 use chan_base::Number;
-use one_shot_word::{Cells, FreeCell, Got, Hand, Load, Parcel, Place, Retired, Sent, State};
+use one_shot_word::{Cells, Got, Hand, Load, Parcel, Place, Sent, State};
 
 /// Takes the load of a number that is READY.
 pub fn take<A, L: Load<A>, P: Parcel<A>>(
@@ -25,9 +25,9 @@ pub fn take<A, L: Load<A>, P: Parcel<A>>(
     requires received { (load : L) (m : ℕ) → In m (L.meaning.received load) → (title : List ℕ) × In (m, title) (L.meaning.mentions load) }
     ensures at { IsAt cells.now hand.new }
     ensures parts { hand.new.seat.me.0.parts ≡ hand.old.seat.me.0.parts }
-    ensures ok { IfOk result (λ load. (L.meaning.number load ≡ number.0) × ((s : Store L) → Idle (means L.meaning P.meaning) (told cells.now) s hand.old.seat.me.0 → Holds (means L.meaning P.meaning) (told cells.now) s load hand.new.seat.me.0)) }
+    ensures ok { IfOk result (λ load. TakesLoad (means L.meaning P.meaning) cells.now number.0 load hand.old hand.new) }
     ensures more { (e : ℕ × List ℕ) → In e hand.old.seat.me.0.names → In e hand.new.seat.me.0.names }
-    ensures err { IfErr result (λ _. (s : Store L) → Idle (means L.meaning P.meaning) (told cells.now) s hand.old.seat.me.0 → Idle (means L.meaning P.meaning) (told cells.now) s hand.new.seat.me.0) }
+    ensures err { IfErr result (λ _. StaysIdle (means L.meaning P.meaning) cells.now hand.old hand.new) }
 {
     match cells.take(hand, number) {
         Ok(load) => Ok(load),
@@ -44,10 +44,10 @@ pub fn home<A, L: Load<A>, P: Parcel<A>>(
 )
     requires at { IsAt cells.now hand.old }
     requires small { L.meaning.number load ≤ 2 ^ 60 }
-    requires holds { (s : Store L) × Holds (means L.meaning P.meaning) (told cells.now) s load hand.old.seat.me.0 }
+    requires holds { HasLoad (means L.meaning P.meaning) cells.now load hand.old }
     ensures at { IsAt cells.now hand.new }
     ensures parts { hand.new.seat.me.0.parts ≡ hand.old.seat.me.0.parts }
-    ensures home { (s : Store L) → Holds (means L.meaning P.meaning) (told cells.now) s load hand.old.seat.me.0 → Idle (means L.meaning P.meaning) (told cells.now) s hand.new.seat.me.0 }
+    ensures home { GoesHome (means L.meaning P.meaning) cells.now load hand.old hand.new }
 {
     cells.home(hand, load, place);
 }
@@ -64,10 +64,10 @@ pub fn send<A, L: Load<A>, P: Parcel<A>>(
     requires small { L.meaning.number by.now ≤ 2 ^ 60 }
     requires number { (number.0 ≤ 2 ^ 60) × Names hand.old.seat.me.0 number.0 }
     requires parcel { (P.meaning.channel parcel ≡ number.0) × KnowsParcel (means L.meaning P.meaning) hand.old.seat.me.0 parcel }
-    requires holds { (s : Store L) × Holds (means L.meaning P.meaning) (told cells.now) s by.now hand.old.seat.me.0 }
+    requires holds { HasLoad (means L.meaning P.meaning) cells.now by.now hand.old }
     ensures at { IsAt cells.now hand.new }
     ensures parts { hand.new.seat.me.0.parts ≡ hand.old.seat.me.0.parts }
-    ensures holds { (s : Store L) → Holds (means L.meaning P.meaning) (told cells.now) s by.now hand.old.seat.me.0 → Holds (means L.meaning P.meaning) (told cells.now) s by.now hand.new.seat.me.0 }
+    ensures holds { StaysHolding (means L.meaning P.meaning) cells.now by.now hand.old hand.new }
     ensures names { hand.new.seat.me.0.names ≡ hand.old.seat.me.0.names }
 {
     cells.send(hand, number, parcel, by.number())
@@ -83,31 +83,32 @@ pub fn recv<A, L: Load<A>, P: Parcel<A>>(
     requires at { IsAt cells.now hand.old }
     requires small { L.meaning.number load ≤ 2 ^ 60 }
     requires number { (number.0 ≤ 2 ^ 60) × Names hand.old.seat.me.0 number.0 }
-    requires holds { (s : Store L) × Holds (means L.meaning P.meaning) (told cells.now) s load hand.old.seat.me.0 }
+    requires holds { HasLoad (means L.meaning P.meaning) cells.now load hand.old }
     ensures at { IsAt cells.now hand.new }
     ensures parts { hand.new.seat.me.0.parts ≡ hand.old.seat.me.0.parts }
     ensures more { (e : ℕ × List ℕ) → In e hand.old.seat.me.0.names → In e hand.new.seat.me.0.names }
-    ensures receives { (s : Store L) → Holds (means L.meaning P.meaning) (told cells.now) s load hand.old.seat.me.0 → Receiving (means L.meaning P.meaning) (told cells.now) s load number.0 hand.old.seat.me.0 hand.new.seat.me.0 result }
+    ensures receives { Receives (means L.meaning P.meaning) cells.now load number.0 hand.old hand.new result }
 {
     cells.recv(hand, number, load)
 }
 
 /// Retires the cell of a number that was received, with a load in hand.
-pub fn retire_received<A, L: Load<A>, P: Parcel<A>>(
+pub fn retire_received<'a, A, L: Load<A>, P: Parcel<A>>(
     cells: &Cells<L, P, A>,
     hand: &mut Hand<L, P, A>,
     number: Number,
-    load: &L,
+    load: &'a L,
 ) -> Retired
     requires at { IsAt cells.now hand.old }
     requires small { number.0 + size cells.now ≤ 2 ^ 60 }
-    requires holds { (s : Store L) × Holds (means L.meaning P.meaning) (told cells.now) (record s { rights = number.0 ∷ s.rights }) load.now hand.old.seat.me.0 }
+    requires holds { HasRight (means L.meaning P.meaning) cells.now load.now number.0 hand.old }
     ensures at { IsAt cells.now hand.new }
     ensures parts { hand.new.seat.me.0.parts ≡ hand.old.seat.me.0.parts }
-    ensures retires { (s : Store L) → Holds (means L.meaning P.meaning) (told cells.now) (record s { rights = number.0 ∷ s.rights }) load.now hand.old.seat.me.0 → Retiring (means L.meaning P.meaning) (told cells.now) s load.now (size cells.now) number.0 hand.new.seat.me.0 result }
+    ensures retires { Retires (means L.meaning P.meaning) cells.now load.now number.0 hand.old hand.new result }
     ensures names { hand.new.seat.me.0.names ≡ hand.old.seat.me.0.names }
 {
-    cells.retire_received(hand, number)
+    let nobody: Option<&'a L> = None;
+    cell_pool::retire(cells, hand, number, nobody)
 }
 
 /// Retires the cell of the ended load in hand, which is kept from then on.
@@ -119,12 +120,12 @@ pub fn retire_ended<A, L: Load<A>, P: Parcel<A>>(
     requires at { IsAt cells.now hand.old }
     requires small { L.meaning.number load.now + size cells.now ≤ 2 ^ 60 }
     requires ended { L.meaning.ended load.now ≡ true }
-    requires holds { (s : Store L) × Holds (means L.meaning P.meaning) (told cells.now) s load.now hand.old.seat.me.0 }
+    requires holds { HasLoad (means L.meaning P.meaning) cells.now load.now hand.old }
     ensures at { IsAt cells.now hand.new }
     ensures parts { hand.new.seat.me.0.parts ≡ hand.old.seat.me.0.parts }
-    ensures ends { (s : Store L) → Holds (means L.meaning P.meaning) (told cells.now) s load.now hand.old.seat.me.0 → Ending (means L.meaning P.meaning) (told cells.now) s load.now (size cells.now) hand.new.seat.me.0 result }
+    ensures ends { Ends (means L.meaning P.meaning) cells.now load.now hand.old hand.new result }
 {
-    cells.retire_ended(hand, load)
+    cell_pool::retire(cells, hand, load.number(), Some(load))
 }
 
 /// Gives a free cell again, with the load of its parent in hand.
@@ -138,12 +139,12 @@ pub fn reopen<A, L: Load<A>, P: Parcel<A>>(
     requires at { IsAt cells.now hand.old }
     requires cell { (cell.next.0 ≡ cell.number.0 + size cells.now) × (cell.next.0 ≤ 2 ^ 60) }
     requires load { (L.meaning.number load ≡ cell.next.0) × IsNew (means L.meaning P.meaning) hand.old.seat.me.0 load }
-    requires holds { (s : Store L) × Holds (means L.meaning P.meaning) (told cells.now) (record s { free = cell.number.0 ∷ s.free }) parent.now hand.old.seat.me.0 }
+    requires holds { HasFree (means L.meaning P.meaning) cells.now parent.now cell.number.0 hand.old }
     ensures at { IsAt cells.now hand.new }
     ensures parts { hand.new.seat.me.0.parts ≡ hand.old.seat.me.0.parts }
     ensures number { result ≡ cell.next }
     ensures names { In (cell.next.0, L.meaning.title load) hand.new.seat.me.0.names }
-    ensures reopens { (s : Store L) → Holds (means L.meaning P.meaning) (told cells.now) (record s { free = cell.number.0 ∷ s.free }) parent.now hand.old.seat.me.0 → Holds (means L.meaning P.meaning) (told cells.now) s parent.now hand.new.seat.me.0 }
+    ensures reopens { Reopens (means L.meaning P.meaning) cells.now parent.now cell.number.0 hand.old hand.new }
 {
-    cells.reopen(hand, cell, load)
+    cell_pool::reopen(cells, hand, cell, load)
 }

@@ -10,9 +10,13 @@ use Rattle.cell_rules.specs.Words.{READY, ENDED, HALTED}
 use Rattle.one_shot_word.specs.declared.answers.Found.{Found}
 use Rattle.one_shot_word.specs.declared.answers.Found.TheVariants.{Claimed, Parked, Done, Reused}
 
+-- the state of a task that is not READY, by what its word has beside the number
+abbrev pub state_of : ℕ → State
+state_of kind = if kind == 2 then Running else (if kind == 3 then Waiting else (if kind == 4 then Ended else Halted))
+
 -- a task word that is not READY of the number
 abbrev pub state_at : ℕ → ℕ → State
-state_at m w = if w == 0 then Unmade else (if w / 8 == m then (if w % 8 == 2 then Running else (if w % 8 == 3 then Waiting else (if w % 8 == 4 then Ended else Halted))) else Passed (record { 0 = w / 8 }))
+state_at m w = if w == 0 then Unmade else (if w / 8 == m then state_of (w % 8) else Passed (record { 0 = w / 8 }))
 
 -- the word of a load that goes home
 abbrev pub stored_as : Place → ℕ → ℕ

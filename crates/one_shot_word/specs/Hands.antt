@@ -5,12 +5,18 @@ use Rattle.cell_rules.specs.Rule.{fresh, blank, both}
 use Rattle.cell_rules.specs.Closing.{HasNothing}
 use Rattle.one_shot_word.specs.declared.cells.Cells.{Cells}
 use Rattle.one_shot_word.specs.declared.hand.Hand.{Hand}
-use Rattle.one_shot_word.specs.Seats.{IsAt}
+use Rattle.one_shot_word.specs.declared.rule.Key.{Key}
+use Rattle.one_shot_word.specs.Seats.{told, IsAt}
 
 module _ {L P A : Type 0} where
+  -- a table that was opened with this key, and the one hand that stands for all
+  abbrev pub IsOpened : Key A → Cells L P A → Hand L P A → Type 0
+  IsOpened key cells hand = (cells.table.shared.key ≡ key) × (hand.seat.table_id ≡ cells.table.shared.table_id)
+      × (hand.seat.me ≡ (fresh key.hands ((key.program, key.rounds) ∷ []), []))
+
   -- a hand as it is made: it carries the program with its limit, and nothing else
   abbrev pub IsFirst : Cells L P A → Hand L P A → Type 0
-  IsFirst cells hand = (hand.seat.table_id ≡ cells.table.shared.table_id) × (hand.seat.me ≡ (fresh 1 ((cells.table.shared.key.program, cells.table.shared.key.rounds) ∷ []), []))
+  IsFirst cells hand = (hand.seat.table_id ≡ cells.table.shared.table_id) × (hand.seat.me ≡ (fresh 1 (told cells ∷ []), []))
 
   -- a hand that may be closed: it has nothing but loads that it keeps, rights and free cells
   abbrev pub IsDone : Cells L P A → Hand L P A → Type 0

@@ -1,21 +1,26 @@
 -- A hand at a table of cells, and the slot that its seat took last.
-use Rattle.std.specs.Prelude.{◌≡◌, ℕ, ◌<◌, ◌≤◌, ◌^◌, List, [], ◌∷◌, Some}
-use Rattle.atomic_table.specs.Table.{Me, rest}
-use Rattle.cell_rules.specs.declared.item.Item.TheVariants.{Load, Parcel}
+use Rattle.std.specs.Prelude.{◌≡◌, ℕ, ◌<◌, ◌≤◌, ◌^◌, List, [], ◌∷◌}
+use Rattle.atomic_table.specs.Table.{Me}
 use Rattle.cell_rules.specs.declared.view.View.{View}
-use Rattle.cell_rules.specs.Lists.{count}
+use Rattle.cell_rules.specs.Lists.{count, In}
 use Rattle.cell_rules.specs.Words.{cell, task_at, claim_at, chan_at, retire_at, load_at, parcel_at}
-use Rattle.cell_rules.specs.Marks.{InHand}
+use Rattle.cell_rules.specs.Marks.{Opening, InHand, Lifted, Reopening, Claimed, Parking, Free, ClaimCleared, ChanCleared}
 use Rattle.cell_rules.specs.Rule.{Means, Held}
 use Rattle.cell_rules.specs.Asks.{Knows, Tells, IsNew, KnowsParcel}
 use Rattle.one_shot_word.specs.declared.cells.Cells.{Cells}
 use Rattle.one_shot_word.specs.declared.hand.Hand.{Hand}
+use Rattle.one_shot_word.specs.Steps.{HasLoad, HasParcel}
 
 module _ {L P A : Type 0} where
-  -- how many cells there are; and where the words and the slots of a number lie
+  -- how many cells there are
   abbrev pub size : Cells L P A → ℕ
   size cells = cells.table.shared.key.cells
 
+  -- what it was told when it was made: the program and its limit
+  abbrev pub told : Cells L P A → A × ℕ
+  told cells = (cells.table.shared.key.program, cells.table.shared.key.rounds)
+
+  -- where the words and the slots of a number lie
   abbrev pub task_of : Cells L P A → ℕ → ℕ
   task_of cells m = task_at (cell cells.table.shared.key.cells m)
 
@@ -42,6 +47,18 @@ module _ {L P A : Type 0} where
 abbrev pub HasInHand : {L A : Type 0} → View L A → ℕ → Type 0
 HasInHand v m = (m ≤ 2 ^ 60) × (0 < count (InHand m) v.marks)
 
+-- the view has a load of the number that is being parked
+abbrev pub IsParking : {L A : Type 0} → View L A → ℕ → Type 0
+IsParking {L} v m = (0 < count (Parking m) v.marks) × ((load : L) × In (m, load) v.resting)
+
+-- the view has the cell of the number as free, with neither word cleared and its slot at home
+abbrev pub HasFree : {L A : Type 0} → View L A → ℕ → Type 0
+HasFree v m = (0 < count (Free m) v.marks) × (count (ClaimCleared m) v.marks ≡ 0) × (count (ChanCleared m) v.marks ≡ 0) × (count (Reopening m) v.marks ≡ 0)
+
+-- or with both words cleared and its slot in hand
+abbrev pub HasCleared : {L A : Type 0} → View L A → ℕ → Type 0
+HasCleared v m = (0 < count (Free m) v.marks) × (0 < count (ClaimCleared m) v.marks) × (0 < count (ChanCleared m) v.marks) × (0 < count (Reopening m) v.marks)
+
 module _ {L P A : Type 0} (x : Means L P A) where
   -- the load may go home: the view knows what it tells, and it tells all that the view has as received by it
   abbrev pub MayRest : View L A → L → Type 0
@@ -49,10 +66,20 @@ module _ {L P A : Type 0} (x : Means L P A) where
 
   -- the slot that was taken last has a load of the number that may go home, or its first load, or a parcel for it
   abbrev pub CarriesKnown : Me (Held L P) (View L A) → ℕ → ℕ → Type 0
-  CarriesKnown me p m = (load : L) × (me.1 ≡ (p, Some (Load load)) ∷ rest me.1) × (x.number load ≡ m) × Knows x me.0 load × Tells x me.0 load m
+  CarriesKnown me p m = (load : L) × HasLoad p load me × (x.number load ≡ m) × Knows x me.0 load × Tells x me.0 load m
 
   abbrev pub CarriesNew : Me (Held L P) (View L A) → ℕ → ℕ → Type 0
-  CarriesNew me p m = (load : L) × (me.1 ≡ (p, Some (Load load)) ∷ rest me.1) × (x.number load ≡ m) × IsNew x me.0 load
+  CarriesNew me p m = (load : L) × HasLoad p load me × (x.number load ≡ m) × IsNew x me.0 load
 
   abbrev pub CarriesParcel : Me (Held L P) (View L A) → ℕ → ℕ → Type 0
-  CarriesParcel me p m = (parcel : P) × (me.1 ≡ (p, Some (Parcel parcel)) ∷ rest me.1) × (x.channel parcel ≡ m) × KnowsParcel x me.0 parcel
+  CarriesParcel me p m = (parcel : P) × HasParcel p parcel me × (x.channel parcel ≡ m) × KnowsParcel x me.0 parcel
+
+  -- and the seat may store it: of n cells, a number that it opened, one that it lifted, a channel that it claimed
+  abbrev pub StoresNew : ℕ → ℕ → Me (Held L P) (View L A) → Type 0
+  StoresNew n m me = (0 < count (Opening m) me.0.marks) × CarriesNew me (load_at (cell n m)) m
+
+  abbrev pub StoresKnown : ℕ → ℕ → Me (Held L P) (View L A) → Type 0
+  StoresKnown n m me = (0 < count (Lifted m) me.0.marks) × CarriesKnown me (load_at (cell n m)) m
+
+  abbrev pub StoresParcel : ℕ → ℕ → Me (Held L P) (View L A) → Type 0
+  StoresParcel n m me = (0 < count (Claimed m) me.0.marks) × CarriesParcel me (parcel_at (cell n m)) m

@@ -1,19 +1,18 @@
 //! The calls that draw and begin, take and put home, retire and give again.
 ghost use Rattle.std.specs.Prelude.{◌≡◌, ℕ, ◌+◌, ◌^◌, ◌<◌, ◌≤◌, true, [], IfOk, IfErr};
 ghost use Rattle.cell_rules.specs.Lists.{count};
-ghost use Rattle.cell_rules.specs.Marks.{Drawn as ToBegin, InHand, Right, Free, ClaimCleared, ChanCleared, Reopening};
-ghost use Rattle.cell_rules.specs.Plays.{noted};
+ghost use Rattle.cell_rules.specs.Marks.{Drawn as ToBegin, InHand, Right};
 ghost use Rattle.cell_rules.specs.Asks.{IsNew};
 ghost use Rattle.one_shot_word.specs.Meaning.{means};
-ghost use Rattle.one_shot_word.specs.Seats.{size, retire_of, IsAt, HasInHand, MayRest};
-ghost use Rattle.one_shot_word.specs.Calls.{Draws, Spends, Begins, Takes, NotReady, GoesHome, Retires, received_by, ended_by, Reopens};
+ghost use Rattle.one_shot_word.specs.Seats.{size, IsAt, HasInHand, HasFree, MayRest};
+ghost use Rattle.one_shot_word.specs.Calls.{Draws, Spends, Begins, Takes, NotReady, GoesHome, Retires, RetiresReceived, RetiresEnded, Reopens};
 
 use crate::answers::{Drawn, FreeCell, Full, Place, Retired, State};
 use crate::cells::Cells;
 use crate::found::{state_of, word_of};
 use crate::hand::Hand;
 use crate::load::{Load, Parcel};
-use crate::words::ready;
+use cell_rules::ready;
 use chan_base::Number;
 use std::marker::Brand;
 
@@ -92,7 +91,7 @@ impl<A, L: Load<A>, P: Parcel<A>> Cells<L, P, A> {
         requires small { number.0 + size self.now ≤ 2 ^ 60 }
         requires right { 0 < count (Right number.0) hand.old.seat.me.0.marks }
         ensures table { hand.new.seat.table_id ≡ hand.old.seat.table_id }
-        ensures retired { (found : ℕ) × Retires number.0 (size self.now) found result × (hand.new.seat.me ≡ (noted (retire_of self.now number.0) found (found + 1) (received_by number.0 result hand.old.seat.me.0), [])) }
+        ensures retired { RetiresReceived (size self.now) number.0 hand.old.seat.me.0 hand.new.seat.me result }
     {
         let found = self.retire_step(&mut hand.seat, number.0);
         self.retired(number, found)
@@ -105,7 +104,7 @@ impl<A, L: Load<A>, P: Parcel<A>> Cells<L, P, A> {
         requires has { (0 < count (InHand (L.meaning.number load.now)) hand.old.seat.me.0.marks) × (L.meaning.ended load.now ≡ true) }
         requires load { MayRest (means L.meaning P.meaning) hand.old.seat.me.0 load.now }
         ensures table { hand.new.seat.table_id ≡ hand.old.seat.table_id }
-        ensures retired { (found : ℕ) × Retires (L.meaning.number load.now) (size self.now) found result × (hand.new.seat.me ≡ (noted (retire_of self.now (L.meaning.number load.now)) found (found + 1) (ended_by (L.meaning.number load.now) load.now result hand.old.seat.me.0), [])) }
+        ensures retired { RetiresEnded (size self.now) (L.meaning.number load.now) load.now hand.old.seat.me.0 hand.new.seat.me result }
     {
         let number = load.number();
         let found = self.end_step::<Brand>(&mut hand.seat, number.0, load);
@@ -131,7 +130,7 @@ impl<A, L: Load<A>, P: Parcel<A>> Cells<L, P, A> {
     pub fn reopen(&self, hand: &mut Hand<L, P, A>, cell: FreeCell, load: L) -> Number
         requires hand { IsAt self.now hand.old }
         requires cell { (cell.next.0 ≡ cell.number.0 + size self.now) × (cell.next.0 ≤ 2 ^ 60) }
-        requires free { (0 < count (Free cell.number.0) hand.old.seat.me.0.marks) × (count (ClaimCleared cell.number.0) hand.old.seat.me.0.marks ≡ 0) × (count (ChanCleared cell.number.0) hand.old.seat.me.0.marks ≡ 0) × (count (Reopening cell.number.0) hand.old.seat.me.0.marks ≡ 0) }
+        requires free { HasFree hand.old.seat.me.0 cell.number.0 }
         requires load { (L.meaning.number load ≡ cell.next.0) × IsNew (means L.meaning P.meaning) hand.old.seat.me.0 load }
         ensures table { hand.new.seat.table_id ≡ hand.old.seat.table_id }
         ensures number { result ≡ cell.next }

@@ -4,7 +4,7 @@
 //!
 //! | Word | Says | Written by |
 //! |---|---|---|
-//! | task | where the load is: READY, WAITING, ENDED or HALTED at home, RUNNING with a hand | `begin`, `take`, `home`, `recv`, the `send` that wakes, `reopen` |
+//! | task | READY, WAITING, ENDED, HALTED: the load is at home; RUNNING: a hand has it | `begin`, `take`, `home`, `recv`, a waking `send`, `reopen` |
 //! | claim | FREE, or BY the load that sends | the first `send`, `reopen` |
 //! | channel | EMPTY, FULL, DONE, or PARKED with the receiver's number | `send` to FULL, `recv` to PARKED or DONE, `reopen` |
 //! | retire | how often a finisher came; the cell is free at each even count but 0, until it is given again | `retire_received`, `retire_ended` |
@@ -27,6 +27,7 @@ pub struct Cells<L: Load<A>, P: Parcel<A>, A> {
     pub table: Table<L, P, A>,
     pub cells: u64,
     pub alloc: Global,
-    ghost sized: { (table.shared.table_id.words ≡ 1 + 4 * cells) × (table.shared.table_id.slots ≡ cells + cells) × (table.shared.key.cells ≡ cells) × (0 < cells) × (cells ≤ 1048576) },
+    ghost sized: { (table.shared.table_id.words ≡ 1 + 4 * cells) × (table.shared.table_id.slots ≡ cells + cells) × (table.shared.key.cells ≡ cells) },
+    ghost bounded: { (0 < cells) × (cells ≤ 1048576) },
     ghost staffed: { 0 < table.shared.key.hands },
 }

@@ -5,8 +5,8 @@ ghost use Rattle.cell_rules.specs.Lists.{total};
 ghost use Rattle.cell_rules.specs.Rule.{fresh, dealt, hand_of, both};
 ghost use Rattle.cell_rules.specs.Closing.{loads_in, parcels_in, HasNothing, AtRest};
 ghost use Rattle.one_shot_word.specs.Meaning.{means};
-ghost use Rattle.one_shot_word.specs.Seats.{size, IsAt};
-ghost use Rattle.one_shot_word.specs.Hands.{IsFirst, IsDone, together};
+ghost use Rattle.one_shot_word.specs.Seats.{size, told};
+ghost use Rattle.one_shot_word.specs.Hands.{IsOpened, IsFirst, IsDone, together};
 
 use crate::cells::Cells;
 use crate::hand::{Hand, Hands};
@@ -76,7 +76,8 @@ fn keep<L, P>(loads: &mut Vec<L>, parcels: &mut Vec<P>, item: Option<Item<L, P>>
     requires { (vec_len loads.old < vec_capacity loads.old) × (vec_len parcels.old < vec_capacity parcels.old) }
     ensures loads { loads.new.items ≡ loads.old.items ++ loads_in (item ∷ []) }
     ensures parcels { parcels.new.items ≡ parcels.old.items ++ parcels_in (item ∷ []) }
-    ensures room { (vec_capacity loads.new ≡ vec_capacity loads.old) × (vec_capacity parcels.new ≡ vec_capacity parcels.old) × (vec_len loads.new ≤ vec_len loads.old + 1) × (vec_len parcels.new ≤ vec_len parcels.old + 1) }
+    ensures room { (vec_capacity loads.new ≡ vec_capacity loads.old) × (vec_capacity parcels.new ≡ vec_capacity parcels.old) }
+    ensures counts { (vec_len loads.new ≤ vec_len loads.old + 1) × (vec_len parcels.new ≤ vec_len parcels.old + 1) }
 {
     match item {
         Some(Item::Load(load)) => loads.push_reserved(load),
@@ -89,7 +90,7 @@ impl<A: Drop, L: Load<A> + Drop, P: Parcel<A> + Drop> Cells<L, P, A> {
     // A table of n cells. The hand stands for all hands.
     fn table_of(alloc: Global, key: Key<A>) -> Result<(Cells<L, P, A>, Hand<L, P, A>), AllocError>
         requires { (0 < key.cells) × (key.cells ≤ 1048576) × (0 < key.hands) × (key.hands ≤ 64) }
-        ensures { IfOk result (λ r. (r.0.table.shared.key ≡ key) × (r.1.seat.table_id ≡ r.0.table.shared.table_id) × (r.1.seat.me ≡ (fresh key.hands ((key.program, key.rounds) ∷ []), []))) }
+        ensures { IfOk result (λ r. IsOpened key r.0 r.1) }
     {
         let cells = key.cells;
         let words = words_of(alloc, cells)?;
@@ -113,7 +114,7 @@ impl<A: Drop, L: Load<A> + Drop, P: Parcel<A> + Drop> Cells<L, P, A> {
         hands: u32,
     ) -> Result<Opened<L, P, A>, Memory>
         requires { (0 < n) × (n ≤ 1048576) × (0 < hands) × (hands ≤ 64) }
-        ensures cells { IfOk result (λ o. (size o.cells ≡ n) × (o.cells.table.shared.key.hands ≡ hands) × (o.cells.table.shared.key.program ≡ program) × (o.cells.table.shared.key.rounds ≡ rounds)) }
+        ensures cells { IfOk result (λ o. (size o.cells ≡ n) × (o.cells.table.shared.key.hands ≡ hands) × (told o.cells ≡ (program, rounds))) }
         ensures hands { IfOk result (λ o. (length o.hands ≡ hands) × All (IsFirst o.cells) o.hands) }
     {
         let places = Vec::with_capacity(alloc, hands as usize)?;
@@ -159,7 +160,7 @@ impl<A, L: Load<A>, P: Parcel<A>> Cells<L, P, A> {
         count: u32,
     ) -> Hands<L, P, A>
         requires hand { hand.seat.table_id ≡ self.now.table.shared.table_id }
-        requires view { hand.seat.me ≡ (fresh count ((self.now.table.shared.key.program, self.now.table.shared.key.rounds) ∷ []), []) }
+        requires view { hand.seat.me ≡ (fresh count (told self.now ∷ []), []) }
         requires count { 0 < count }
         requires places { (places.items ≡ []) × (vec_len places ≡ 0) × (vec_capacity places ≡ count) }
         ensures { (length result ≡ count) × All (IsFirst self.now) result }
@@ -199,7 +200,7 @@ impl<A: Drop, L: Load<A> + Drop, P: Parcel<A> + Drop> Cells<L, P, A> {
         requires hand { (hand.seat.table_id ≡ self.table.shared.table_id) × (hand.seat.me.0.parts ≡ self.table.shared.key.hands) × HasNothing hand.seat.me.0 }
         requires loads { (loads.items ≡ []) × (vec_len loads ≡ 0) × (vec_capacity loads ≡ 2 * self.cells) }
         requires parcels { (parcels.items ≡ []) × (vec_len parcels ≡ 0) × (vec_capacity parcels ≡ 2 * self.cells) }
-        ensures { AtRest (means L.meaning P.meaning) (self.table.shared.key.program, self.table.shared.key.rounds) hand.seat.me.0 result.loads result.parcels }
+        ensures { AtRest (means L.meaning P.meaning) (told self) hand.seat.me.0 result.loads result.parcels }
     {
         let slots = 2 * self.cells as usize;
         let mut loads = loads;
@@ -226,7 +227,7 @@ impl<A: Drop, L: Load<A> + Drop, P: Parcel<A> + Drop> Cells<L, P, A> {
     pub fn close(self, hands: Hands<L, P, A>) -> Result<Closed<L, P>, Unclosed<L, P, A>>
         requires hands { All (IsDone self) hands }
         requires all { total (λ h. h.seat.me.0.parts) hands ≡ self.table.shared.key.hands }
-        ensures ok { IfOk result (λ closed. AtRest (means L.meaning P.meaning) (self.table.shared.key.program, self.table.shared.key.rounds) (together hands) closed.loads closed.parcels) }
+        ensures ok { IfOk result (λ closed. AtRest (means L.meaning P.meaning) (told self) (together hands) closed.loads closed.parcels) }
         ensures err { IfErr result (λ u. (u.cells ≡ self) × (u.hands ≡ hands)) }
     {
         let slots = 2 * self.cells as usize;

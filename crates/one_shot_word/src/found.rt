@@ -4,7 +4,7 @@ ghost use Rattle.cell_rules.specs.Words.{READY, ENDED, HALTED};
 ghost use Rattle.one_shot_word.specs.Found.{state_at, stored_as, claim_found, chan_found};
 
 use crate::answers::{Found, Place, State};
-use crate::words::{ended, halted, ready};
+use cell_rules::{ended, halted, ready};
 use chan_base::Number;
 
 pub fn state_of(number: u64, word: u64) -> State

@@ -12,7 +12,6 @@ mod plays;
 mod receives;
 mod rule;
 mod steps;
-mod words;
 
 pub use answers::{Drawn, Found, FreeCell, Full, Got, Place, Retired, Sent, State};
 pub use cells::Cells;

@@ -1,7 +1,8 @@
 //! The names of the steps.
 ghost use Rattle.std.specs.Prelude.{ℕ, List, []};
 ghost use Rattle.cell_rules.specs.Rule.{dealt, hand_of, both, blank};
-ghost use Rattle.cell_rules.specs.Plays.{draws, opens, lifts, settles, raises, stows, leaves, wakes, halts, claims, sends, parks, retires, ends, clears_claim, clears_chan, begins, reopens, takes_load, reclaims, collects};
+ghost use Rattle.cell_rules.specs.Plays.{draws, opens, lifts, settles, raises, stows, leaves, wakes, halts, claims, sends, parks};
+ghost use Rattle.cell_rules.specs.Plays.{retires, ends, clears_claim, clears_chan, begins, reopens, takes_load, reclaims, collects};
 ghost use Rattle.one_shot_word.specs.Meaning.{means};
 
 use crate::load::{Load, Parcel};

@@ -1,21 +1,19 @@
 //! The calls that send and receive.
 ghost use Rattle.std.specs.Prelude.{◌≡◌, ◌≢◌, ℕ, ◌^◌, ◌<◌, ◌≤◌, [], IfOk, IfErr};
 ghost use Rattle.cell_rules.specs.Lists.{count, In};
-ghost use Rattle.cell_rules.specs.Words.{EMPTY, FULL, PARKED};
+ghost use Rattle.cell_rules.specs.Words.{EMPTY, FULL};
 ghost use Rattle.cell_rules.specs.Marks.{InHand};
-ghost use Rattle.cell_rules.specs.Plays.{noted, parking, seeing};
 ghost use Rattle.cell_rules.specs.Asks.{Names, KnowsParcel};
-ghost use Rattle.cell_rules.specs.declared.view.View.{View};
 ghost use Rattle.one_shot_word.specs.Meaning.{means};
-ghost use Rattle.one_shot_word.specs.Seats.{size, chan_of, IsAt, HasInHand, MayRest};
-ghost use Rattle.one_shot_word.specs.Calls.{Sends, Collects, Rests, Missed, Turned, Receives};
+ghost use Rattle.one_shot_word.specs.Seats.{size, IsAt, HasInHand, MayRest};
+ghost use Rattle.one_shot_word.specs.Calls.{Sends, Collects, NotFull, Parks, BackAtFull, BackElse, Receives};
 
 use crate::answers::{Got, Sent};
 use crate::cells::Cells;
 use crate::found::{found_in_channel, found_in_claim};
 use crate::hand::Hand;
 use crate::load::{Load, Parcel};
-use crate::words::{empty, free, full};
+use cell_rules::{empty, free, full};
 use chan_base::Number;
 use std::marker::Brand;
 
@@ -51,7 +49,7 @@ impl<A, L: Load<A>, P: Parcel<A>> Cells<L, P, A> {
         requires by { 0 < count (InHand by) hand.old.seat.me.0.marks }
         ensures table { hand.new.seat.table_id ≡ hand.old.seat.table_id }
         ensures ok { IfOk result (λ parcel. Collects (means L.meaning P.meaning) (size self.now) number by parcel hand.old.seat.me.0 hand.new.seat.me) }
-        ensures err { IfErr result (λ found. (found ≢ FULL number) × (hand.new.seat.me ≡ (noted (chan_of self.now number) found found hand.old.seat.me.0, []))) }
+        ensures err { IfErr result (λ found. NotFull (means L.meaning P.meaning) (size self.now) number found hand.old.seat.me.0 hand.new.seat.me) }
         ensures sent { IfErr result (λ found. In number hand.old.seat.me.0.sends → found ≢ EMPTY number) }
     {
         let seat = &mut hand.seat;
@@ -76,16 +74,14 @@ impl<A, L: Load<A>, P: Parcel<A>> Cells<L, P, A> {
         requires has { HasInHand hand.old.seat.me.0 (L.meaning.number load) }
         requires load { MayRest (means L.meaning P.meaning) hand.old.seat.me.0 load }
         ensures table { hand.new.seat.table_id ≡ hand.old.seat.table_id }
-        ensures ok { IfOk result (λ _. (w : View L (A × ℕ)) × Rests (size self.now) (L.meaning.number load) load hand.old.seat.me.0 w × (hand.new.seat.me ≡ (noted (chan_of self.now number) (EMPTY number) (PARKED (L.meaning.number load)) (parking (L.meaning.number load) w), []))) }
+        ensures ok { IfOk result (λ _. Parks (means L.meaning P.meaning) (size self.now) number load hand.old.seat.me.0 hand.new.seat.me) }
         ensures back { IfErr result (λ r. (r.0 ≡ load) × (r.1 ≢ EMPTY number)) }
-        ensures full { IfErr result (λ r. r.1 ≡ FULL number → (w : View L (A × ℕ)) × Missed (means L.meaning P.meaning) (size self.now) number load hand.old.seat.me.0 w × (hand.new.seat.me ≡ (w, []))) }
-        ensures other { IfErr result (λ r. r.1 ≢ FULL number → (w : View L (A × ℕ)) × Turned (means L.meaning P.meaning) (size self.now) number r.1 load hand.old.seat.me.0 w × (hand.new.seat.me ≡ (w, []))) }
+        ensures full { IfErr result (λ r. BackAtFull (means L.meaning P.meaning) (size self.now) number r.1 load hand.old.seat.me.0 hand.new.seat.me) }
+        ensures other { IfErr result (λ r. BackElse (means L.meaning P.meaning) (size self.now) number r.1 load hand.old.seat.me.0 hand.new.seat.me) }
     {
         let own = load.number();
         let seat = &mut hand.seat;
-        self.lift(seat, own.0);
-        self.put_load(seat, own.0, load);
-        self.halt(seat, own.0);
+        self.rest(seat, own.0, load);
         let found = self.park_step(seat, number, own.0);
         if found == empty(number) {
             return Ok(());

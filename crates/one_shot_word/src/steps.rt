@@ -2,12 +2,17 @@
 ghost use Rattle.std.specs.Prelude.{◌≡◌, ◌≢◌, ◌⊎◌, ℕ, ◌+◌, ◌*◌, ◌%◌, ◌^◌, ◌<◌, ◌≤◌, true, [], ◌∷◌, Some, None};
 ghost use Rattle.atomic_table.specs.Table.{rest};
 ghost use Rattle.cell_rules.specs.Lists.{count, In};
-ghost use Rattle.cell_rules.specs.Words.{cell, task_at, claim_at, chan_at, retire_at, load_at, parcel_at, READY, RUNNING, WAITING, ENDED, HALTED, FREE, BY, EMPTY, FULL, DONE, PARKED};
-ghost use Rattle.cell_rules.specs.Marks.{Drawn, Opening, InHand, Lifted, Reopening, Claimed, Picking, Parking, Waking, Right, Free, ClaimCleared, ChanCleared};
-ghost use Rattle.cell_rules.specs.Plays.{CanTake, CanCollect, noted, drawing, spending, opened, lifting, settling, raising, stowing, beginning, leaving, halting, waked, parking, seeing, claiming, sending, sending_to, collecting, spending_right, freeing_right, ending, freeing_end, clearing_claim, clearing_chan, reopening, taking, reclaiming};
-ghost use Rattle.cell_rules.specs.Asks.{Names, Knows, Tells, IsNew, KnowsParcel};
+ghost use Rattle.cell_rules.specs.Words.{cell, READY, ENDED, HALTED, FREE, EMPTY, FULL, PARKED};
+ghost use Rattle.cell_rules.specs.Marks.{Drawn, InHand, Lifted, Reopening, Picking, Parking, Waking, Right, Free, ClaimCleared, ChanCleared};
+ghost use Rattle.cell_rules.specs.Asks.{Names, Knows, Tells};
 ghost use Rattle.one_shot_word.specs.Meaning.{means};
-ghost use Rattle.one_shot_word.specs.Seats.{size, task_of, claim_of, chan_of, retire_of, load_of, parcel_of, CarriesKnown, CarriesNew, CarriesParcel};
+ghost use Rattle.one_shot_word.specs.Steps.{MissStep, DrawStep, SpendStep, OpenStep, LiftStep, RaiseStep, SettleStep, StowStep};
+ghost use Rattle.one_shot_word.specs.Steps.{BeginStep, LeaveStep, HaltStep, WakeStep, TakeStep, ReclaimStep, BackStep, ReopenStep};
+ghost use Rattle.one_shot_word.specs.Steps.{ClaimStep, SendStep, SendToStep, ParkStep, SeeStep, CollectStep, ClearClaimStep, ClearChanStep};
+ghost use Rattle.one_shot_word.specs.Steps.{RetireStep, FreeStep, EndStep, FreeEndStep, HasEmpty, HasLoad, HasParcel};
+ghost use Rattle.one_shot_word.specs.Calls.{StoresWaiting};
+ghost use Rattle.one_shot_word.specs.Seats.{size, task_of, claim_of, chan_of, retire_of, load_of, parcel_of};
+ghost use Rattle.one_shot_word.specs.Seats.{HasInHand, MayRest, IsParking, HasCleared, CarriesNew, StoresNew, StoresKnown, StoresParcel};
 
 use crate::cells::Cells;
 use crate::load::{Load, Parcel};
@@ -15,8 +20,7 @@ use crate::plays::{
     Begin, Claim, ClearChan, ClearClaim, Collect, Draw, End, Finisher, Halt, Leave, Lift, Open,
     Park, Raise, Receiver, Reclaim, Reopen, Retire, Send, Settle, Stow, Take, Wake,
 };
-use crate::words::{claimed, done, empty, free, full, parked, ready, running, waiting};
-use cell_rules::{Item, View};
+use cell_rules::{Item, View, claimed, done, empty, free, full, parked, ready, running, waiting};
 
 /// What it knows is told of a program of type A with its limit of rounds.
 pub type Seat<L, P, A> = atomic_table::Seat<Option<Item<L, P>>, View<L, (A, u64)>>;
@@ -78,8 +82,8 @@ impl<A, L: Load<A>, P: Parcel<A>> Cells<L, P, A> {
         requires seat { seat.old.table_id ≡ self.now.table.shared.table_id }
         requires may { seat.old.me.0.spent < seat.old.me.0.parts }
         ensures table { seat.new.table_id ≡ seat.old.table_id }
-        ensures drawn { result < size self.now → seat.new.me ≡ (noted 0 result (result + 1) (drawing result seat.old.me.0), seat.old.me.1) }
-        ensures none { size self.now ≤ result → seat.new.me ≡ (noted 0 result (result + 1) (spending seat.old.me.0), seat.old.me.1) }
+        ensures drawn { result < size self.now → DrawStep result seat.old.me seat.new.me }
+        ensures none { size self.now ≤ result → SpendStep result seat.old.me seat.new.me }
     {
         self.table.shared.fetch_add::<Draw>(seat, 0, 1)
     }
@@ -90,7 +94,7 @@ impl<A, L: Load<A>, P: Parcel<A>> Cells<L, P, A> {
         requires live { 0 < seat.old.me.0.parts }
         requires has { 0 < count (Drawn number) seat.old.me.0.marks }
         ensures table { seat.new.table_id ≡ seat.old.table_id }
-        ensures me { seat.new.me ≡ (noted (task_of self.now number) result result (opened number seat.old.me.0), (load_of self.now number, None) ∷ seat.old.me.1) }
+        ensures me { OpenStep (size self.now) number result seat.old.me seat.new.me }
     {
         self.table.shared.load::<Open>(seat, self.task_word(number))
     }
@@ -101,7 +105,7 @@ impl<A, L: Load<A>, P: Parcel<A>> Cells<L, P, A> {
         requires live { 0 < seat.old.me.0.parts }
         requires has { 0 < count (InHand number) seat.old.me.0.marks }
         ensures table { seat.new.table_id ≡ seat.old.table_id }
-        ensures me { seat.new.me ≡ (noted (task_of self.now number) result result (lifting number seat.old.me.0), (load_of self.now number, None) ∷ seat.old.me.1) }
+        ensures me { LiftStep (size self.now) number result seat.old.me seat.new.me }
     {
         self.table.shared.load::<Lift>(seat, self.task_word(number))
     }
@@ -111,9 +115,9 @@ impl<A, L: Load<A>, P: Parcel<A>> Cells<L, P, A> {
         requires seat { seat.old.table_id ≡ self.now.table.shared.table_id }
         requires live { 0 < seat.old.me.0.parts }
         requires has { 0 < count (Lifted number) seat.old.me.0.marks }
-        requires slot { seat.old.me.1 ≡ (load_of self.now number, None) ∷ rest seat.old.me.1 }
+        requires slot { HasEmpty (load_of self.now number) seat.old.me }
         ensures table { seat.new.table_id ≡ seat.old.table_id }
-        ensures me { seat.new.me ≡ (noted (task_of self.now number) result result (settling number seat.old.me.0), rest seat.old.me.1) }
+        ensures me { SettleStep (size self.now) number result seat.old.me seat.new.me }
     {
         self.table
             .shared
@@ -127,7 +131,7 @@ impl<A, L: Load<A>, P: Parcel<A>> Cells<L, P, A> {
         requires has { 0 < count (Free number) seat.old.me.0.marks }
         requires fresh { count (Reopening number) seat.old.me.0.marks ≡ 0 }
         ensures table { seat.new.table_id ≡ seat.old.table_id }
-        ensures me { seat.new.me ≡ (noted (task_of self.now number) result result (raising number seat.old.me.0), (load_of self.now number, None) ∷ seat.old.me.1) }
+        ensures me { RaiseStep (size self.now) number result seat.old.me seat.new.me }
     {
         self.table
             .shared
@@ -139,9 +143,9 @@ impl<A, L: Load<A>, P: Parcel<A>> Cells<L, P, A> {
         requires seat { seat.old.table_id ≡ self.now.table.shared.table_id }
         requires live { 0 < seat.old.me.0.parts }
         requires has { 0 < count (Picking number) seat.old.me.0.marks }
-        requires slot { seat.old.me.1 ≡ (parcel_of self.now number, None) ∷ rest seat.old.me.1 }
+        requires slot { HasEmpty (parcel_of self.now number) seat.old.me }
         ensures table { seat.new.table_id ≡ seat.old.table_id }
-        ensures me { seat.new.me ≡ (noted (chan_of self.now number) result result (stowing number seat.old.me.0), rest seat.old.me.1) }
+        ensures me { StowStep (size self.now) number result seat.old.me seat.new.me }
     {
         self.table.shared.load::<Stow>(seat, self.chan_word(number))
     }
@@ -151,9 +155,9 @@ impl<A, L: Load<A>, P: Parcel<A>> Cells<L, P, A> {
         requires seat { seat.old.table_id ≡ self.now.table.shared.table_id }
         requires live { 0 < seat.old.me.0.parts }
         requires small { number ≤ 2 ^ 60 }
-        requires opened { (0 < count (Opening number) seat.old.me.0.marks) × CarriesNew (means L.meaning P.meaning) seat.old.me (load_of self.now number) number }
+        requires opened { StoresNew (means L.meaning P.meaning) (size self.now) number seat.old.me }
         ensures table { seat.new.table_id ≡ seat.old.table_id }
-        ensures me { (load : L) → seat.old.me.1 ≡ (load_of self.now number, Some (Item.Load load)) ∷ rest seat.old.me.1 → seat.new.me ≡ (noted (task_of self.now number) result (READY number) (beginning number (L.meaning.title load) seat.old.me.0), rest seat.old.me.1) }
+        ensures me { BeginStep (means L.meaning P.meaning) (size self.now) number result seat.old.me seat.new.me }
     {
         self.table
             .shared
@@ -164,10 +168,10 @@ impl<A, L: Load<A>, P: Parcel<A>> Cells<L, P, A> {
     pub(crate) fn leave(&self, seat: &mut Seat<L, P, A>, number: u64, word: u64) -> u64
         requires seat { seat.old.table_id ≡ self.now.table.shared.table_id }
         requires live { 0 < seat.old.me.0.parts }
-        requires lifted { (0 < count (Lifted number) seat.old.me.0.marks) × CarriesKnown (means L.meaning P.meaning) seat.old.me (load_of self.now number) number }
+        requires lifted { StoresKnown (means L.meaning P.meaning) (size self.now) number seat.old.me }
         requires word { (word ≡ READY number) ⊎ (word ≡ ENDED number) ⊎ (word ≡ HALTED number) }
         ensures table { seat.new.table_id ≡ seat.old.table_id }
-        ensures me { seat.new.me ≡ (noted (task_of self.now number) result word (leaving number seat.old.me.0), rest seat.old.me.1) }
+        ensures me { LeaveStep (size self.now) number word result seat.old.me seat.new.me }
     {
         self.table
             .shared
@@ -179,9 +183,9 @@ impl<A, L: Load<A>, P: Parcel<A>> Cells<L, P, A> {
         requires seat { seat.old.table_id ≡ self.now.table.shared.table_id }
         requires live { 0 < seat.old.me.0.parts }
         requires small { number ≤ 2 ^ 60 }
-        requires lifted { (0 < count (Lifted number) seat.old.me.0.marks) × CarriesKnown (means L.meaning P.meaning) seat.old.me (load_of self.now number) number }
+        requires lifted { StoresKnown (means L.meaning P.meaning) (size self.now) number seat.old.me }
         ensures table { seat.new.table_id ≡ seat.old.table_id }
-        ensures me { (load : L) → seat.old.me.1 ≡ (load_of self.now number, Some (Item.Load load)) ∷ rest seat.old.me.1 → seat.new.me ≡ (noted (task_of self.now number) result (WAITING number) (halting number load seat.old.me.0), rest seat.old.me.1) }
+        ensures me { HaltStep (size self.now) number result seat.old.me seat.new.me }
     {
         self.table
             .shared
@@ -195,7 +199,7 @@ impl<A, L: Load<A>, P: Parcel<A>> Cells<L, P, A> {
         requires small { number ≤ 2 ^ 60 }
         requires has { 0 < count (Waking number) seat.old.me.0.marks }
         ensures table { seat.new.table_id ≡ seat.old.table_id }
-        ensures me { seat.new.me ≡ (noted (task_of self.now number) result (READY number) (waked number seat.old.me.0), seat.old.me.1) }
+        ensures me { WakeStep (size self.now) number result seat.old.me seat.new.me }
     {
         self.table
             .shared
@@ -207,9 +211,9 @@ impl<A, L: Load<A>, P: Parcel<A>> Cells<L, P, A> {
         requires seat { seat.old.table_id ≡ self.now.table.shared.table_id }
         requires live { 0 < seat.old.me.0.parts }
         requires small { number ≤ 2 ^ 60 }
-        requires parking { (0 < count (Parking number) seat.old.me.0.marks) × ((load : L) × In (number, load) seat.old.me.0.resting) }
+        requires parking { IsParking seat.old.me.0 number }
         ensures table { seat.new.table_id ≡ seat.old.table_id }
-        ensures me { (load : L) → In (number, load) seat.old.me.0.resting → seat.new.me ≡ (noted (task_of self.now number) result (RUNNING number) (reclaiming (means L.meaning P.meaning) number load seat.old.me.0), (load_of self.now number, Some (Item.Load load)) ∷ seat.old.me.1) }
+        ensures me { ReclaimStep (means L.meaning P.meaning) (size self.now) number result seat.old.me seat.new.me }
     {
         self.table
             .shared
@@ -222,8 +226,8 @@ impl<A, L: Load<A>, P: Parcel<A>> Cells<L, P, A> {
         requires live { 0 < seat.old.me.0.parts }
         requires small { number ≤ 2 ^ 60 }
         ensures table { seat.new.table_id ≡ seat.old.table_id }
-        ensures taken { result ≡ READY number → (load : L) × (L.meaning.number load ≡ number) × CanTake (means L.meaning P.meaning) seat.old.me.0 load × (seat.new.me ≡ (noted (task_of self.now number) result (RUNNING number) (taking (means L.meaning P.meaning) number load seat.old.me.0), (load_of self.now number, Some (Item.Load load)) ∷ seat.old.me.1)) }
-        ensures missed { result ≢ READY number → seat.new.me ≡ (noted (task_of self.now number) result result seat.old.me.0, seat.old.me.1) }
+        ensures taken { result ≡ READY number → TakeStep (means L.meaning P.meaning) (size self.now) number result seat.old.me seat.new.me }
+        ensures missed { result ≢ READY number → MissStep (task_of self.now number) result seat.old.me seat.new.me }
     {
         self.table.shared.compare_exchange::<Take<A>>(
             seat,
@@ -241,8 +245,8 @@ impl<A, L: Load<A>, P: Parcel<A>> Cells<L, P, A> {
         requires by { by ≤ 2 ^ 60 }
         requires knows { Names seat.old.me.0 number }
         ensures table { seat.new.table_id ≡ seat.old.table_id }
-        ensures claimed { result ≡ FREE number → seat.new.me ≡ (noted (claim_of self.now number) result (BY by) (claiming number seat.old.me.0), (parcel_of self.now number, None) ∷ seat.old.me.1) }
-        ensures missed { result ≢ FREE number → seat.new.me ≡ (noted (claim_of self.now number) result result seat.old.me.0, seat.old.me.1) }
+        ensures claimed { result ≡ FREE number → ClaimStep (size self.now) number by result seat.old.me seat.new.me }
+        ensures missed { result ≢ FREE number → MissStep (claim_of self.now number) result seat.old.me seat.new.me }
     {
         self.table
             .shared
@@ -254,11 +258,11 @@ impl<A, L: Load<A>, P: Parcel<A>> Cells<L, P, A> {
         requires seat { seat.old.table_id ≡ self.now.table.shared.table_id }
         requires live { 0 < seat.old.me.0.parts }
         requires small { number ≤ 2 ^ 60 }
-        requires claimed { (0 < count (Claimed number) seat.old.me.0.marks) × CarriesParcel (means L.meaning P.meaning) seat.old.me (parcel_of self.now number) number }
+        requires claimed { StoresParcel (means L.meaning P.meaning) (size self.now) number seat.old.me }
         ensures table { seat.new.table_id ≡ seat.old.table_id }
         ensures found { (result ≡ EMPTY number) ⊎ ((j : ℕ) × (result ≡ PARKED j)) }
-        ensures empty { result ≡ EMPTY number → seat.new.me ≡ (noted (chan_of self.now number) result (FULL number) (sending number seat.old.me.0), rest seat.old.me.1) }
-        ensures parked { (j : ℕ) → result ≡ PARKED j → (seat.new.me ≡ (noted (chan_of self.now number) result (FULL number) (sending_to number j seat.old.me.0), rest seat.old.me.1)) × (j ≤ 2 ^ 60) }
+        ensures empty { result ≡ EMPTY number → SendStep (size self.now) number result seat.old.me seat.new.me }
+        ensures parked { (j : ℕ) → result ≡ PARKED j → SendToStep (size self.now) number j result seat.old.me seat.new.me × (j ≤ 2 ^ 60) }
     {
         self.table
             .shared
@@ -274,9 +278,9 @@ impl<A, L: Load<A>, P: Parcel<A>> Cells<L, P, A> {
         requires knows { Names seat.old.me.0 number }
         requires has { 0 < count (Parking own) seat.old.me.0.marks }
         ensures table { seat.new.table_id ≡ seat.old.table_id }
-        ensures parked { result ≡ EMPTY number → seat.new.me ≡ (noted (chan_of self.now number) result (PARKED own) (parking own seat.old.me.0), seat.old.me.1) }
-        ensures full { result ≡ FULL number → seat.new.me ≡ (noted (chan_of self.now number) result result (seeing number seat.old.me.0), seat.old.me.1) }
-        ensures missed { result ≢ EMPTY number → result ≢ FULL number → seat.new.me ≡ (noted (chan_of self.now number) result result seat.old.me.0, seat.old.me.1) }
+        ensures parked { result ≡ EMPTY number → ParkStep (size self.now) number own result seat.old.me seat.new.me }
+        ensures full { result ≡ FULL number → SeeStep (size self.now) number result seat.old.me seat.new.me }
+        ensures missed { result ≢ EMPTY number → result ≢ FULL number → MissStep (chan_of self.now number) result seat.old.me seat.new.me }
     {
         self.table
             .shared
@@ -296,8 +300,8 @@ impl<A, L: Load<A>, P: Parcel<A>> Cells<L, P, A> {
         requires knows { Names seat.old.me.0 number }
         requires by { (by ≡ R.by) × (0 < count (InHand by) seat.old.me.0.marks) }
         ensures table { seat.new.table_id ≡ seat.old.table_id }
-        ensures collected { result ≡ FULL number → (parcel : P) × (P.meaning.channel parcel ≡ number) × CanCollect (means L.meaning P.meaning) seat.old.me.0 parcel × (seat.new.me ≡ (noted (chan_of self.now number) result (DONE number) (collecting number (P.meaning.mentions parcel) by seat.old.me.0), (parcel_of self.now number, Some (Item.Parcel parcel)) ∷ seat.old.me.1)) }
-        ensures missed { result ≢ FULL number → seat.new.me ≡ (noted (chan_of self.now number) result result seat.old.me.0, seat.old.me.1) }
+        ensures collected { result ≡ FULL number → CollectStep (means L.meaning P.meaning) (size self.now) number by result seat.old.me seat.new.me }
+        ensures missed { result ≢ FULL number → MissStep (chan_of self.now number) result seat.old.me seat.new.me }
         ensures sent { In number seat.old.me.0.sends → result ≢ EMPTY number }
     {
         self.table
@@ -316,8 +320,8 @@ impl<A, L: Load<A>, P: Parcel<A>> Cells<L, P, A> {
         requires live { 0 < seat.old.me.0.parts }
         requires has { 0 < count (Right number) seat.old.me.0.marks }
         ensures table { seat.new.table_id ≡ seat.old.table_id }
-        ensures first { result % 2 ≡ 0 → seat.new.me ≡ (noted (retire_of self.now number) result (result + 1) (spending_right number seat.old.me.0), seat.old.me.1) }
-        ensures second { result % 2 ≡ 1 → seat.new.me ≡ (noted (retire_of self.now number) result (result + 1) (freeing_right number seat.old.me.0), seat.old.me.1) }
+        ensures first { result % 2 ≡ 0 → RetireStep (size self.now) number result seat.old.me seat.new.me }
+        ensures second { result % 2 ≡ 1 → FreeStep (size self.now) number result seat.old.me seat.new.me }
     {
         self.table
             .shared
@@ -337,8 +341,8 @@ impl<A, L: Load<A>, P: Parcel<A>> Cells<L, P, A> {
         requires load { (R.loads ≡ load.now ∷ []) × (L.meaning.number load.now ≡ number) × (L.meaning.ended load.now ≡ true) }
         requires knows { Knows (means L.meaning P.meaning) seat.old.me.0 load.now × Tells (means L.meaning P.meaning) seat.old.me.0 load.now number }
         ensures table { seat.new.table_id ≡ seat.old.table_id }
-        ensures first { result % 2 ≡ 0 → seat.new.me ≡ (noted (retire_of self.now number) result (result + 1) (ending number load.now seat.old.me.0), seat.old.me.1) }
-        ensures second { result % 2 ≡ 1 → seat.new.me ≡ (noted (retire_of self.now number) result (result + 1) (freeing_end number load.now seat.old.me.0), seat.old.me.1) }
+        ensures first { result % 2 ≡ 0 → EndStep (size self.now) number load.now result seat.old.me seat.new.me }
+        ensures second { result % 2 ≡ 1 → FreeEndStep (size self.now) number load.now result seat.old.me seat.new.me }
     {
         self.table
             .shared
@@ -352,7 +356,7 @@ impl<A, L: Load<A>, P: Parcel<A>> Cells<L, P, A> {
         requires small { number + size self.now ≤ 2 ^ 60 }
         requires has { (0 < count (Free number) seat.old.me.0.marks) × (count (ClaimCleared number) seat.old.me.0.marks ≡ 0) }
         ensures table { seat.new.table_id ≡ seat.old.table_id }
-        ensures me { seat.new.me ≡ (noted (claim_of self.now number) result (FREE (number + size self.now)) (clearing_claim number seat.old.me.0), seat.old.me.1) }
+        ensures me { ClearClaimStep (size self.now) number result seat.old.me seat.new.me }
     {
         let next = self.next(number);
         self.table
@@ -367,7 +371,7 @@ impl<A, L: Load<A>, P: Parcel<A>> Cells<L, P, A> {
         requires small { number + size self.now ≤ 2 ^ 60 }
         requires has { (0 < count (Free number) seat.old.me.0.marks) × (count (ChanCleared number) seat.old.me.0.marks ≡ 0) }
         ensures table { seat.new.table_id ≡ seat.old.table_id }
-        ensures me { seat.new.me ≡ (noted (chan_of self.now number) result (EMPTY (number + size self.now)) (clearing_chan number seat.old.me.0), seat.old.me.1) }
+        ensures me { ClearChanStep (size self.now) number result seat.old.me seat.new.me }
     {
         let next = self.next(number);
         self.table
@@ -380,10 +384,10 @@ impl<A, L: Load<A>, P: Parcel<A>> Cells<L, P, A> {
         requires seat { seat.old.table_id ≡ self.now.table.shared.table_id }
         requires live { 0 < seat.old.me.0.parts }
         requires small { number + size self.now ≤ 2 ^ 60 }
-        requires free { (0 < count (Free number) seat.old.me.0.marks) × (0 < count (ClaimCleared number) seat.old.me.0.marks) × (0 < count (ChanCleared number) seat.old.me.0.marks) × (0 < count (Reopening number) seat.old.me.0.marks) }
+        requires free { HasCleared seat.old.me.0 number }
         requires raised { CarriesNew (means L.meaning P.meaning) seat.old.me (load_of self.now number) (number + size self.now) }
         ensures table { seat.new.table_id ≡ seat.old.table_id }
-        ensures me { (load : L) → seat.old.me.1 ≡ (load_of self.now number, Some (Item.Load load)) ∷ rest seat.old.me.1 → seat.new.me ≡ (noted (task_of self.now number) result (READY (number + size self.now)) (reopening (size self.now) number (L.meaning.title load) seat.old.me.0), rest seat.old.me.1) }
+        ensures me { ReopenStep (means L.meaning P.meaning) (size self.now) number result seat.old.me seat.new.me }
     {
         let next = self.next(number);
         self.table
@@ -391,14 +395,32 @@ impl<A, L: Load<A>, P: Parcel<A>> Cells<L, P, A> {
             .swap::<Reopen<A>>(seat, self.task_word(number), ready(next))
     }
 
+    // A load that the seat has goes home as WAITING, to be parked.
+    pub(crate) fn rest(&self, seat: &mut Seat<L, P, A>, own: u64, load: L)
+        requires seat { seat.old.table_id ≡ self.now.table.shared.table_id }
+        requires live { 0 < seat.old.me.0.parts }
+        requires own { own ≡ L.meaning.number load }
+        requires has { HasInHand seat.old.me.0 own }
+        requires load { MayRest (means L.meaning P.meaning) seat.old.me.0 load }
+        ensures table { seat.new.table_id ≡ seat.old.table_id }
+        ensures live { 0 < seat.new.me.0.parts }
+        ensures waits { (0 < count (Parking own) seat.new.me.0.marks) × In (own, load) seat.new.me.0.resting }
+        ensures names { (m : ℕ) → Names seat.old.me.0 m → Names seat.new.me.0 m }
+        ensures me { StoresWaiting (size self.now) own load seat.old.me seat.new.me }
+    {
+        self.lift(seat, own);
+        self.put_load(seat, own, load);
+        self.halt(seat, own);
+    }
+
     // A load that is being parked comes back from its slot.
     pub(crate) fn bring_back(&self, seat: &mut Seat<L, P, A>, own: u64) -> L
         requires seat { seat.old.table_id ≡ self.now.table.shared.table_id }
         requires live { 0 < seat.old.me.0.parts }
         requires small { own ≤ 2 ^ 60 }
-        requires parking { (0 < count (Parking own) seat.old.me.0.marks) × ((load : L) × In (own, load) seat.old.me.0.resting) }
+        requires parking { IsParking seat.old.me.0 own }
         ensures table { seat.new.table_id ≡ seat.old.table_id }
-        ensures back { (load : L) → In (own, load) seat.old.me.0.resting → (result ≡ load) × ((a b : ℕ) × (seat.new.me ≡ (noted (task_of self.now own) b b (settling own (noted (task_of self.now own) a (RUNNING own) (reclaiming (means L.meaning P.meaning) own load seat.old.me.0))), seat.old.me.1))) }
+        ensures back { BackStep (means L.meaning P.meaning) (size self.now) own result seat.old.me seat.new.me }
     {
         self.reclaim(seat, own);
         let load = self.pick_load(seat, own);
@@ -409,7 +431,7 @@ impl<A, L: Load<A>, P: Parcel<A>> Cells<L, P, A> {
     // A load into the empty slot that the seat took last.
     pub(crate) fn put_load(&self, seat: &mut Seat<L, P, A>, number: u64, load: L)
         requires seat { seat.old.table_id ≡ self.now.table.shared.table_id }
-        requires empty { seat.old.me.1 ≡ (load_of self.now number, None) ∷ rest seat.old.me.1 }
+        requires empty { HasEmpty (load_of self.now number) seat.old.me }
         ensures table { seat.new.table_id ≡ seat.old.table_id }
         ensures me { seat.new.me ≡ (seat.old.me.0, (load_of self.now number, Some (Item.Load load)) ∷ rest seat.old.me.1) }
     {
@@ -423,9 +445,9 @@ impl<A, L: Load<A>, P: Parcel<A>> Cells<L, P, A> {
     // The load out of the slot that the seat took last.
     pub(crate) fn pick_load(&self, seat: &mut Seat<L, P, A>, number: u64) -> L
         requires seat { seat.old.table_id ≡ self.now.table.shared.table_id }
-        requires full { (load : L) × (seat.old.me.1 ≡ (load_of self.now number, Some (Item.Load load)) ∷ rest seat.old.me.1) }
+        requires full { (load : L) × HasLoad (load_of self.now number) load seat.old.me }
         ensures table { seat.new.table_id ≡ seat.old.table_id }
-        ensures load { seat.old.me.1 ≡ (load_of self.now number, Some (Item.Load result)) ∷ rest seat.old.me.1 }
+        ensures load { HasLoad (load_of self.now number) result seat.old.me }
         ensures me { seat.new.me ≡ (seat.old.me.0, (load_of self.now number, None) ∷ rest seat.old.me.1) }
     {
         let was = self
@@ -441,7 +463,7 @@ impl<A, L: Load<A>, P: Parcel<A>> Cells<L, P, A> {
     // A parcel into the empty slot that the seat took last.
     pub(crate) fn put_parcel(&self, seat: &mut Seat<L, P, A>, number: u64, parcel: P)
         requires seat { seat.old.table_id ≡ self.now.table.shared.table_id }
-        requires empty { seat.old.me.1 ≡ (parcel_of self.now number, None) ∷ rest seat.old.me.1 }
+        requires empty { HasEmpty (parcel_of self.now number) seat.old.me }
         ensures table { seat.new.table_id ≡ seat.old.table_id }
         ensures me { seat.new.me ≡ (seat.old.me.0, (parcel_of self.now number, Some (Item.Parcel parcel)) ∷ rest seat.old.me.1) }
     {
@@ -455,9 +477,9 @@ impl<A, L: Load<A>, P: Parcel<A>> Cells<L, P, A> {
     // The parcel out of the slot that the seat took last.
     pub(crate) fn pick_parcel(&self, seat: &mut Seat<L, P, A>, number: u64) -> P
         requires seat { seat.old.table_id ≡ self.now.table.shared.table_id }
-        requires full { (parcel : P) × (seat.old.me.1 ≡ (parcel_of self.now number, Some (Item.Parcel parcel)) ∷ rest seat.old.me.1) }
+        requires full { (parcel : P) × HasParcel (parcel_of self.now number) parcel seat.old.me }
         ensures table { seat.new.table_id ≡ seat.old.table_id }
-        ensures parcel { seat.old.me.1 ≡ (parcel_of self.now number, Some (Item.Parcel result)) ∷ rest seat.old.me.1 }
+        ensures parcel { HasParcel (parcel_of self.now number) result seat.old.me }
         ensures me { seat.new.me ≡ (seat.old.me.0, (parcel_of self.now number, None) ∷ rest seat.old.me.1) }
     {
         let was = self

@@ -12,8 +12,8 @@ use Rattle.hand_states.proofs.Closing as closing
 use Rattle.hand_calls.proofs.Reading.{sends_stay, retired_parts, ended_parts, receives_stay, sending_holds, receiving, retiring, ends}
 use Rattle.hand_calls.proofs.retire_received.Goals as goal
 
-pub retire_received-requires-clause-right : goal.retire_received-requires-clause-right
-retire_received-requires-clause-right g c =
+pub retire-requires-clause-received : goal.retire-requires-clause-received
+retire-requires-clause-received g c =
     let l = g.L.Load in
     let p = g.P.Parcel in
     let x = means l.meaning p.meaning in
@@ -33,11 +33,11 @@ returns g c =
     let about : g.row.A.Denot × ℕ = (key.program, key.rounds) in
     let n : ℕ = key.cells in
     let v : View g.row.L.Denot (g.row.A.Denot × ℕ) = c.args.hand.now.seat.me.0 in
-    let t = c.retire_received.ensures.retired in
+    let t = c.retire.ensures.received in
     let e = t.2 in
-    let parts = retired_parts c.args.number.0 c.retire_received.result v in
+    let parts = retired_parts c.args.number.0 c.retire.result v in
     record {
-      at = (c.retire_received.ensures.table ∙ c.requires.at.0, ap (λ (z : Sat g.row.L.Denot g.row.P.Denot (g.row.A.Denot × ℕ)). z.1) e, subst (λ (z : ℕ). 0 < z) (sym (ap (λ (z : Sat g.row.L.Denot g.row.P.Denot (g.row.A.Denot × ℕ)). z.0.parts) e ∙ parts.0)) c.requires.at.2);
+      at = (c.retire.ensures.table ∙ c.requires.at.0, ap (λ (z : Sat g.row.L.Denot g.row.P.Denot (g.row.A.Denot × ℕ)). z.1) e, subst (λ (z : ℕ). 0 < z) (sym (ap (λ (z : Sat g.row.L.Denot g.row.P.Denot (g.row.A.Denot × ℕ)). z.0.parts) e ∙ parts.0)) c.requires.at.2);
       parts = ap (λ (z : Sat g.row.L.Denot g.row.P.Denot (g.row.A.Denot × ℕ)). z.0.parts) e ∙ parts.0;
       retires = λ s holds. retiring x about s n c.args.number.0 c.args.load.now v _ t.0 _ holds t.1 e;
       names = ap (λ (z : Sat g.row.L.Denot g.row.P.Denot (g.row.A.Denot × ℕ)). z.0.names) e ∙ parts.1;

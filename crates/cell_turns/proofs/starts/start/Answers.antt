@@ -7,7 +7,7 @@ use Rattle.cell_rules.specs.Plays.{Sat, noted, drawing, opened, beginning}
 use Rattle.cell_rules.proofs.Totals.{more_here}
 use Rattle.hand_states.specs.Hands.{Store, Idle}
 use Rattle.hand_states.proofs.Closing as closing
-use Rattle.hand_calls.specs.At.{told}
+use Rattle.one_shot_word.specs.Seats.{told}
 use Rattle.cell_turns.specs.declared.job.Job.{Job}
 use Rattle.cell_turns.specs.declared.job.Note.{Note}
 use Rattle.cell_turns.specs.Meanings.{meanings, numbers, named}

@@ -2,29 +2,13 @@ use Rattle.std.proofs.Common.{rules, ℕ, ◌≡◌, ◌+◌, ◌*◌, ◌<◌, 
 use Rattle.cell_rules.specs.Lists.{In}
 use Rattle.hand_states.specs.Hands.{Store, Idle, Holds}
 use Rattle.hand_states.proofs.Closing as closing
-use Rattle.hand_calls.specs.At.{told}
+use Rattle.one_shot_word.specs.Seats.{told}
 use Rattle.cell_turns.specs.Meanings.{meanings, numbers, named}
 use Rattle.cell_turns.specs.Crew.{IsIdle, HasFree, HasSpare, HoldsJob, HoldsFree, HoldsRight}
 use Rattle.cell_turns.proofs.Telling.{told_received, told_next}
 use Rattle.cell_turns.proofs.turns.fork_with.Goals as goal
 
-pub reopen-requires-clause-load : goal.reopen-requires-clause-load
-reopen-requires-clause-load c =
-    let crew = c.requires.0 in (
-      ap (λ z. z.0) (c.first-child.ensures.0 ∙ c.next-next.ensures),
-      record {
-        mentions = λ e i. ⊎_elim (λ q. inl q) (λ t. absurd (subst (λ z. In e (named z)) c.first-child.ensures.1 t)) i;
-        forked = refl;
-        sent = refl;
-        received = ap numbers c.first-child.ensures.1;
-        program = c.requires.3.1.has.program ∙ ap (λ z. z ∷ []) crew.1;
-      },
-    )
-
-pub send_to-requires-clause-holds : goal.send_to-requires-clause-holds
-send_to-requires-clause-holds c =
-    let crew = c.requires.0 in
-    ((c.reopen.ensures.at, crew.1, crew.2, c.reopen.ensures.parts ∙ crew.3), c.requires.1, (c.requires.3.0, c.reopen.ensures.reopens c.requires.3.0 c.requires.3.1))
-
 pub send_to-requires-clause-number : goal.send_to-requires-clause-number
-send_to-requires-clause-number c = (search rules, subst (λ z. In (z, []) c.reopen.new.hand.seat.me.0.names) (sym (ap (λ z. z.0) c.next-next.ensures)) c.reopen.ensures.names)
+send_to-requires-clause-number c =
+    let child : c.reopen_next-child.result ≡ c.args.cell.next = c.reopen_next-child.ensures.number in
+    (search rules, subst (λ z. In (z, []) c.reopen_next-child.new.hand.seat.me.0.names) (sym (ap (λ z. z.0) child)) c.reopen_next-child.ensures.names)

@@ -2,14 +2,14 @@ use Rattle.std.proofs.Common.{rules, ℕ, ◌≡◌, ◌+◌, ◌*◌, ◌<◌, 
 use Rattle.cell_rules.specs.Lists.{In}
 use Rattle.hand_states.specs.Hands.{Store, Idle, Holds}
 use Rattle.hand_states.proofs.Closing as closing
-use Rattle.hand_calls.specs.At.{told}
+use Rattle.one_shot_word.specs.Seats.{told}
 use Rattle.cell_turns.specs.Meanings.{meanings, numbers, named}
 use Rattle.cell_turns.specs.Crew.{IsIdle, HasFree, HasSpare, HoldsJob, HoldsFree, HoldsRight}
 use Rattle.cell_turns.proofs.Telling.{told_received, told_next}
 use Rattle.cell_turns.proofs.turns.receive.Goals as goal
 
-pub returns-in-Value : goal.returns-in-Value
-returns-in-Value c =
+pub returns-in-Value-clause-replies : goal.returns-in-Value-clause-replies
+returns-in-Value-clause-replies c =
     let crew = c.requires.holds.0 in
     let s = c.requires.holds.2.0 in
     let got = c.in-Value.ensures.receives s c.requires.holds.2.1 in
@@ -26,13 +26,13 @@ returns-in-Value c =
       ),
     )
 
-pub returns-in-Parked : goal.returns-in-Parked
-returns-in-Parked c =
+pub returns-in-Parked-clause-replies : goal.returns-in-Parked-clause-replies
+returns-in-Parked-clause-replies c =
     let crew = c.requires.holds.0 in
     ((c.in-Parked.ensures.at, crew.1, crew.2, c.in-Parked.ensures.parts ∙ crew.3), (c.requires.holds.2.0, c.in-Parked.ensures.receives c.requires.holds.2.0 c.requires.holds.2.1))
 
-pub returns-in-Misused : goal.returns-in-Misused
-returns-in-Misused c =
+pub returns-in-Misused-clause-replies : goal.returns-in-Misused-clause-replies
+returns-in-Misused-clause-replies c =
     let crew = c.requires.holds.0 in
     let s = c.requires.holds.2.0 in
     let got = c.in-Misused.ensures.receives s c.requires.holds.2.1 in

@@ -2,7 +2,7 @@ use Rattle.std.proofs.Common.{rules, ℕ, ◌≡◌, ◌+◌, ◌*◌, ◌<◌, 
 use Rattle.cell_rules.specs.Lists.{In}
 use Rattle.hand_states.specs.Hands.{Store, Idle, Holds}
 use Rattle.hand_states.proofs.Closing as closing
-use Rattle.hand_calls.specs.At.{told}
+use Rattle.one_shot_word.specs.Seats.{told}
 use Rattle.cell_turns.specs.Meanings.{meanings, numbers, named}
 use Rattle.cell_turns.specs.Crew.{IsIdle, HasFree, HasSpare, HoldsJob, HoldsFree, HoldsRight}
 use Rattle.cell_turns.proofs.Telling.{told_received, told_next}

@@ -10,5 +10,5 @@ returns g c =
     let m : ℕ = c.args.number in
     let same : n ≡ c.args.self.now.table.shared.key.cells = sym c.args.self.now.sized.2 in (
       cell_is n m ∙ ap (λ z. cell z m) same,
-      subst (λ z. m % n < z) same (mod_below m n c.args.self.now.sized.3),
+      subst (λ z. m % n < z) same (mod_below m n c.args.self.now.bounded.0),
     )

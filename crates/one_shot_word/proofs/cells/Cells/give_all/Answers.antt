@@ -22,8 +22,8 @@ loop-i-preserved g c =
     let within : i < length (slots_filled row) = omega (arith, (slots_counts row).1) in (
       c.keep.ensures.room.0 ∙ inv.0,
       c.keep.ensures.room.1 ∙ inv.1,
-      omega (arith, c.keep.ensures.room.2, inv.2),
-      omega (arith, c.keep.ensures.room.3, inv.3),
+      omega (arith, c.keep.ensures.counts.0, inv.2),
+      omega (arith, c.keep.ensures.counts.1, inv.3),
       now.2 ∙ inv.4,
       (λ k le lt. ap (λ l. get_or l k false) now.1 ∙ (get_or-set_other _ i k false false (λ e. omega arith) ∙ inv.5 k (omega arith) (omega arith))),
       (λ k lt. dite (ℕ_discrete k i) (λ e. ap (λ l. get_or l k false) now.1 ∙ (ap (λ j. get_or (Rattle.std.proofs.Common.set (slots_filled row) i false) j false) e ∙ get_or-set_same (slots_filled row) i false false within))

@@ -21,4 +21,4 @@ invariant_of-result g c =
     let n : ℕ = c.args.key.cells in
     let is : c.as_slice.result.now ≡ words_at_start n = search rules in
     let long : length c.as_slice.result.now ≡ 1 + 4 * n = ap length is ∙ (let sum : length (words_at_start n) ≡ 1 + 4 * n = omega (arith, cells_long n) in sum) in
-    record { sized = (t.0 ∙ long, omega (arith, t.1), ap (λ k. k.cells) t.5, c.requires.0, c.requires.1); staffed = subst (λ z. 0 < z.hands) (sym t.5) c.requires.2 }
+    record { sized = (t.0 ∙ long, omega (arith, t.1), ap (λ k. k.cells) t.5); bounded = (c.requires.0, c.requires.1); staffed = subst (λ z. 0 < z.hands) (sym t.5) c.requires.2 }
