@@ -59,7 +59,7 @@ fn first(
 {
     for name in names.as_slice() {
         let stepped = look(alloc, program, config, name)?;
-        let copy = name.copy(alloc)?;
+        let copy = name.copy()?;
         if let Some(ending) = brought(fault, stepped, copy) {
             return Ok(Some(ending));
         }
@@ -87,7 +87,7 @@ fn unended(alloc: Global, program: &Program, config: &Config) -> Result<Names, M
     let mut names = Items::new(alloc);
     'tasks: for (name, task) in config.tasks.iter() {
         if !task.frames().is_empty() {
-            names.push(name.copy(alloc)?)?;
+            names.push(name.copy()?)?;
         }
     }
     Ok(names)

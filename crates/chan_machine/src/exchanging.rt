@@ -61,7 +61,6 @@ pub(crate) fn send(
 
 /// The step of a task, with room for one more variable, whose act is a receive on the channel.
 pub(crate) fn receive(
-    alloc: Global,
     program: &Program,
     config: &mut Config,
     name: &Name,
@@ -84,7 +83,7 @@ pub(crate) fn receive(
     let Slot {
         name: variable,
         next,
-    } = task.slot(alloc, program)?;
+    } = task.slot(program)?;
     match config.channels.get(&channel) {
         None => Ok(Stepped::Stuck(StuckWhy::NoChannel)),
         Some(None) => Ok(Stepped::Waits(channel)),
@@ -166,10 +165,10 @@ pub(crate) fn fork(
     };
     let made = task.offspring(alloc, program, Number(0))?;
     let Offspring { child, end, next } = made;
-    let key = child.name().copy(alloc)?;
-    let channel = key.copy(alloc)?;
-    let spare = key.copy(alloc)?;
-    let event = key.copy(alloc)?;
+    let key = child.name().copy()?;
+    let channel = key.copy()?;
+    let spare = key.copy()?;
+    let event = key.copy()?;
     let names = (key, channel, spare);
     put_child(&mut config.tasks, &mut config.channels, child, names)?;
     branch(program, &mut config.tasks, name, end, next);

@@ -16,11 +16,11 @@ use std::alloc::Global;
 use std::collections::BTreeMap;
 
 /// Puts the task under its name.
-fn put_task(alloc: Global, tasks: &mut BTreeMap<Name, Task>, task: Task) -> Result<(), Memory>
+fn put_task(tasks: &mut BTreeMap<Name, Task>, task: Task) -> Result<(), Memory>
     ensures tasks { OnOk result ((program : Parts) → map_of (task_of program.nodes) tasks.new ≡ insert (map_of (task_of program.nodes) tasks.old) task.name (task_of program.nodes task)) }
     ensures fits { OnOk result ((program : Parts) → TasksFit program tasks.old → FramesFit program.nodes task.frames.items → TasksFit program tasks.new) }
 {
-    let name = task.name().copy(alloc)?;
+    let name = task.name().copy()?;
     tasks.insert(name, task)?;
     Ok(())
 }
@@ -42,7 +42,7 @@ fn gather_tasks(alloc: Global, tasks: Tasks) -> Result<BTreeMap<Name, Task>, Mem
     let mut left = tasks;
     let mut gathered = BTreeMap::new(alloc);
     'tasks: while let Some(task) = left.pop() {
-        put_task(alloc, &mut gathered, task)?;
+        put_task(&mut gathered, task)?;
     }
     Ok(gathered)
 }

@@ -16,7 +16,7 @@ impl Config {
     {
         let mut names = Items::new(alloc);
         'tasks: for (name, _) in self.tasks.iter() {
-            names.push(name.copy(alloc)?)?;
+            names.push(name.copy()?)?;
         }
         Ok(names)
     }
@@ -27,7 +27,7 @@ impl Config {
     {
         let mut names = Items::new(alloc);
         'channels: for (name, _) in self.channels.iter() {
-            names.push(name.copy(alloc)?)?;
+            names.push(name.copy()?)?;
         }
         Ok(names)
     }

@@ -21,16 +21,12 @@ use std::alloc::Global;
 use std::collections::BTreeMap;
 
 /// What a send on the channel would answer.
-fn look_send(
-    alloc: Global,
-    channels: &BTreeMap<Name, Option<Value>>,
-    channel: &Channel,
-) -> Result<Stepped, Memory>
+fn look_send(channels: &BTreeMap<Name, Option<Value>>, channel: &Channel) -> Result<Stepped, Memory>
     ensures { IfOk result (λ s. (C : ConfigOf) (p : NameOf) (k : ℕ) (a : ActOf) → C.channels ≡ map_of (option_map value_as) channels.now → Send ≡ kind_of a → Some channel.now.name ≡ channel_in a → Answers (effect C p k a) s) }
 {
     match channels.get(&channel.name) {
         Some(None) => {
-            let name = channel.name.copy(alloc)?;
+            let name = channel.name.copy()?;
             Ok(Stepped::Moved(Event::Send(name)))
         }
         Some(Some(_)) => Ok(Stepped::Stuck(StuckWhy::FullChannel)),
@@ -40,13 +36,12 @@ fn look_send(
 
 /// What a receive on the channel would answer.
 fn look_receive(
-    alloc: Global,
     channels: &BTreeMap<Name, Option<Value>>,
     channel: &Channel,
 ) -> Result<Stepped, Memory>
     ensures { IfOk result (λ s. (C : ConfigOf) (p : NameOf) (k : ℕ) (a : ActOf) → C.channels ≡ map_of (option_map value_as) channels.now → Recv ≡ kind_of a → Some channel.now.name ≡ channel_in a → Answers (effect C p k a) s) }
 {
-    let name = channel.name.copy(alloc)?;
+    let name = channel.name.copy()?;
     match channels.get(&channel.name) {
         Some(Some(_)) => Ok(Stepped::Moved(Event::Recv(name))),
         Some(None) => Ok(Stepped::Waits(name)),
@@ -84,15 +79,15 @@ pub fn look(
         Act::Stuck(why) => Ok(Stepped::Stuck(why)),
         Act::Fork => {
             let made = task.offspring(alloc, program, Number(0))?;
-            let child = made.child.name().copy(alloc)?;
+            let child = made.child.name().copy()?;
             Ok(Stepped::Moved(Event::Fork(child)))
         }
         Act::Send => match task.channel(program) {
-            Some(channel) => look_send(alloc, &config.channels, channel),
+            Some(channel) => look_send(&config.channels, channel),
             None => unreachable!(),
         },
         Act::Recv => match task.channel(program) {
-            Some(channel) => look_receive(alloc, &config.channels, channel),
+            Some(channel) => look_receive(&config.channels, channel),
             None => unreachable!(),
         },
     }

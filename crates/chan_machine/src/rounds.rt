@@ -83,7 +83,7 @@ pub(crate) fn run_rounds(alloc: Global, program: &Program, rounds: u64) -> Resul
 {
     let config = start(alloc, program)?;
     let mut ready = BTreeSet::new(alloc);
-    ready.insert(Name::root(alloc))?;
+    ready.insert(Name::root())?;
     let mut run = Run {
         config,
         entries: Items::new(alloc),

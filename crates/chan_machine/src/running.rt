@@ -63,15 +63,15 @@ fn make_step(
         Act::Fork => fork(alloc, program, config, name),
         Act::Send => match task.channel(program) {
             Some(channel) => {
-                let channel = channel.name.copy(alloc)?;
+                let channel = channel.name.copy()?;
                 send(alloc, program, config, name, channel)
             }
             None => unreachable!(),
         },
         Act::Recv => match task.channel(program) {
             Some(channel) => {
-                let channel = channel.name.copy(alloc)?;
-                receive(alloc, program, config, name, channel)
+                let channel = channel.name.copy()?;
+                receive(program, config, name, channel)
             }
             None => unreachable!(),
         },

@@ -33,7 +33,7 @@ pub fn start(alloc: Global, program: &Program) -> Result<Config, Memory>
 {
     let main = Task::main(alloc, program)?;
     let mut tasks = BTreeMap::new(alloc);
-    tasks.insert(Name::root(alloc), main)?;
+    tasks.insert(Name::root(), main)?;
     Ok(Config {
         tasks,
         channels: BTreeMap::new(alloc),
@@ -81,7 +81,7 @@ pub(crate) fn print(
     ensures fits { TasksFit program.now tasks.new }
     ensures ends { (test : EndTest) → TasksPass test tasks.old → TasksPass test tasks.new }
 {
-    let copy = name.copy(alloc)?;
+    let copy = name.copy()?;
     prints.push(Put { name: copy, number })?;
     match advance(alloc, program, tasks, name) {
         Ok(()) => Ok(()),

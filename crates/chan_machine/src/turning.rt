@@ -48,13 +48,13 @@ fn note(entries: &mut Entries, time: u64, name: Name, event: Event) -> Result<()
 }
 
 /// After the step of a task: who was altered may move, and who waited at the channel of the step.
-fn spread(alloc: Global, queue: &mut Queue, name: Name, event: &Event) -> Result<(), Memory>
+fn spread(queue: &mut Queue, name: Name, event: &Event) -> Result<(), Memory>
     ensures { OnOk result (SpreadsTo name (event_of event.now) queue.old queue.new) }
 {
     queue.ready.insert(name)?;
     match event {
         Event::Fork(channel) => {
-            let child = channel.copy(alloc)?;
+            let child = channel.copy()?;
             queue.ready.insert(child)?;
             wake(&mut queue.waiting, channel, &mut queue.ready)?;
         }
@@ -90,8 +90,8 @@ fn turn(
         queue.ready.insert(name)?;
         return Ok(());
     };
-    let mover = name.copy(alloc)?;
-    spread(alloc, queue, mover, &event)?;
+    let mover = name.copy()?;
+    spread(queue, mover, &event)?;
     note(&mut run.entries, time, name, event)?;
     Ok(())
 }

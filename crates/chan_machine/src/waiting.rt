@@ -21,7 +21,7 @@ pub(crate) fn park(
         None => Vec::new(alloc),
     };
     names.push(name)?;
-    let channel = channel.copy(alloc)?;
+    let channel = channel.copy()?;
     waiting.insert(channel, names)?;
     Ok(())
 }

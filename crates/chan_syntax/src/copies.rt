@@ -14,7 +14,7 @@ pub fn copy_names(alloc: Global, names: &Idents) -> Result<Idents, Memory>
 {
     let mut copy = Items::new(alloc);
     for name in names.as_slice() {
-        copy.push(name.copy(alloc)?)?;
+        copy.push(name.copy()?)?;
     }
     Ok(copy)
 }
@@ -30,7 +30,7 @@ fn copy_parts(alloc: Global, parts: &TermParts) -> Result<TermParts, Memory>
 {
     let mut copy = Items::new(alloc);
     for part in parts.as_slice() {
-        copy.push(part.copy(alloc)?)?;
+        copy.push(part.copy()?)?;
     }
     Ok(copy)
 }
@@ -55,23 +55,23 @@ fn copy_limits(alloc: Global, limits: &Limits) -> Result<Limits, Memory>
     Ok(copy)
 }
 
-fn copy_name(alloc: Global, name: &Option<Ident>) -> Result<Option<Ident>, Memory>
+fn copy_name(name: &Option<Ident>) -> Result<Option<Ident>, Memory>
     ensures { IfOk result (λ copy. copy ≡ name.now) }
 {
     match name {
-        Some(name) => Ok(Some(name.copy(alloc)?)),
+        Some(name) => Ok(Some(name.copy()?)),
         None => Ok(None),
     }
 }
 
 impl Part {
-    pub fn copy(&self, alloc: Global) -> Result<Part, Memory>
+    pub fn copy(&self) -> Result<Part, Memory>
         ensures { IfOk result (λ copy. copy ≡ self.now) }
     {
         Ok(Part {
             negative: self.negative,
             factor: self.factor,
-            name: copy_name(alloc, &self.name)?,
+            name: copy_name(&self.name)?,
             name_span: self.name_span,
         })
     }
@@ -118,7 +118,7 @@ impl Ref {
     {
         Ok(Ref {
             dual: self.dual,
-            name: self.name.copy(alloc)?,
+            name: self.name.copy()?,
             name_span: self.name_span,
             args: copy_terms(alloc, &self.args)?,
             span: self.span,
@@ -173,7 +173,7 @@ impl Param {
         ensures { IfOk result (λ copy. copy ≡ self.now) }
     {
         Ok(Param {
-            name: self.name.copy(alloc)?,
+            name: self.name.copy()?,
             name_span: self.name_span,
             shape: self.shape.copy(alloc)?,
         })

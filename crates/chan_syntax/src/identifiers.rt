@@ -1,5 +1,5 @@
 //! Names in a program's text.
-ghost use Rattle.std.specs.Prelude.{◌≡◌, Some, IfOk, nat_eq, refl};
+ghost use Rattle.std.specs.Prelude.{◌≡◌, ◌≤◌, Some, IfOk, length, nat_eq, refl};
 ghost use Rattle.std.specs.Ordering.{nat_cmp};
 ghost use Rattle.std.specs.Cmp.{partial_equiv_from_equiv};
 ghost use Rattle.std.specs.Cmp.Lexicographic.{slice_cmp, pointwise, nat_list_eq_equiv, nat_list_cmp_total, texts_ties, texts_po};
@@ -7,42 +7,119 @@ ghost use Rattle.std.specs.Cmp.Lexicographic.{slice_cmp, pointwise, nat_list_eq_
 use sqlite_items::Items;
 use std::alloc::{AllocError, Global};
 use std::cmp::Ordering;
+use std::fmt;
 use std::marker::Model;
+use std::sync::Arc;
 
 pub type Idents = Items<Ident>;
 
+/// At most 22 bytes, with which a `Kept` is as large as a `Vec`.
+#[derive(Drop)]
+struct Short {
+    bytes: [u8; 22],
+    len: u8,
+}
+
+impl Model for Short {
+    ghost use Rattle.std.specs.Prelude.{◌≤◌, List, ℕ, take};
+
+    ghost Value = { List ℕ };
+
+    ghost view = { λ short. take short.len short.bytes };
+
+    ghost invariant = { λ short. short.len ≤ 22 };
+}
+
+impl Short {
+    fn from_slice(text: &[u8]) -> Short
+        requires { length text.now ≤ 22 }
+        ensures { result ≡ text.now }
+    {
+        let mut bytes = [0; 22];
+        bytes[..text.len()].copy_from_slice(text);
+        Short {
+            bytes,
+            len: text.len() as u8,
+        }
+    }
+
+    fn as_slice(&self) -> &[u8]
+        ensures { result.now ≡ self.now }
+    {
+        &self.bytes[..usize::from(self.len)]
+    }
+
+    fn copy(&self) -> Short
+        ensures { result ≡ self.now }
+    {
+        Short {
+            bytes: self.bytes,
+            len: self.len,
+        }
+    }
+}
+
+/// Short bytes are copied in less time than owners are counted, above all where threads share
+/// what they copy. Copies of long ones share them.
+#[derive(Drop)]
+enum Kept {
+    Short(Short),
+    Long(Arc<Vec<u8>, Global>),
+}
+
 /// A name in a program, a list of ASCII bytes.
-#[derive(Debug, Drop)]
+#[derive(Drop)]
 pub struct Ident {
-    bytes: Vec<u8>,
+    kept: Kept,
 }
 
 impl Model for Ident {
     ghost use Rattle.std.specs.Prelude.{List, ℕ};
+    ghost use Rattle.chan_syntax.specs.Kept.{bytes_in};
 
     ghost Value = { List ℕ };
 
-    ghost view = { λ ident. ident.bytes.items };
+    ghost view = { λ ident. bytes_in ident.kept };
 }
 
 impl Ident {
     pub fn from_slice(alloc: Global, bytes: &[u8]) -> Result<Ident, AllocError>
         ensures { IfOk result (λ ident. ident ≡ bytes.now) }
     {
+        if bytes.len() <= 22 {
+            let kept = Kept::Short(Short::from_slice(bytes));
+            return Ok(Ident { kept });
+        }
         let bytes = Vec::from_slice(alloc, bytes)?;
-        Ok(Ident { bytes })
+        let bytes = Arc::new(alloc, bytes)?;
+        let kept = Kept::Long(bytes);
+        Ok(Ident { kept })
     }
 
     pub fn as_slice(&self) -> &[u8]
         ensures { result.now ≡ self.now }
     {
-        self.bytes.as_slice()
+        match &self.kept {
+            Kept::Short(short) => short.as_slice(),
+            Kept::Long(bytes) => bytes.as_slice(),
+        }
     }
 
-    pub fn copy(&self, alloc: Global) -> Result<Ident, AllocError>
+    /// A copy, which takes no memory. It fails where owners are too many to count.
+    pub fn copy(&self) -> Result<Ident, AllocError>
         ensures { IfOk result (λ ident. ident ≡ self.now) }
     {
-        Ident::from_slice(alloc, self.bytes.as_slice())
+        let kept = match &self.kept {
+            Kept::Short(short) => Kept::Short(short.copy()),
+            Kept::Long(bytes) => Kept::Long(Arc::try_clone(bytes)?),
+        };
+        Ok(Ident { kept })
+    }
+}
+
+impl fmt::Debug for Ident {
+    fn fmt<W: fmt::Write>(&self, f: &mut fmt::Formatter<W>) -> fmt::Result {
+        fmt::Debug::fmt(self.as_slice(), f)
     }
 }
 
@@ -52,7 +129,7 @@ impl PartialEq for Ident {
     ghost laws = { partial_equiv_from_equiv nat_list_eq_equiv };
 
     fn eq(&self, other: &Ident) -> bool {
-        self.bytes.as_slice() == other.bytes.as_slice()
+        self.as_slice() == other.as_slice()
     }
 }
 
@@ -81,6 +158,6 @@ impl Ord for Ident {
     ghost matches_eq = { texts_ties };
 
     fn cmp(&self, other: &Ident) -> Ordering {
-        self.bytes.as_slice().cmp(other.bytes.as_slice())
+        self.as_slice().cmp(other.as_slice())
     }
 }

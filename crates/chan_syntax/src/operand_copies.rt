@@ -58,7 +58,7 @@ impl Pat {
         ensures { IfOk result (λ copy. copy ≡ self.now) }
     {
         Ok(Pat {
-            name: self.name.copy(alloc)?,
+            name: self.name.copy()?,
             name_span: self.name_span,
             names: copy_names(alloc, &self.names)?,
             names_spans: copy_spans(alloc, &self.names_spans)?,

@@ -18,7 +18,7 @@ pub(crate) fn index_funcs(alloc: Global, funcs: &[Func]) -> Result<BTreeMap<Iden
     let mut left = funcs.len();
     while left > 0 {
         left -= 1;
-        let name = funcs[left].name.copy(alloc)?;
+        let name = funcs[left].name.copy()?;
         index.insert(name, left)?;
     }
     Ok(index)

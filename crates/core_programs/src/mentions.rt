@@ -10,37 +10,32 @@ use chan_syntax::{Ident, Supply};
 use name_uses::{add_name, add_supplies, add_supply, add_term, add_terms};
 use std::alloc::Global;
 
-fn add_sent(
-    alloc: Global,
-    names: &mut Vec<Ident>,
-    channel: &Ident,
-    value: &Supply,
-) -> Result<(), Memory>
+fn add_sent(names: &mut Vec<Ident>, channel: &Ident, value: &Supply) -> Result<(), Memory>
     ensures { OnOk result (names.new.items ≡ names.old.items ++ channel.now ∷ supply_names (supply_of value.now)) }
 {
-    add_name(alloc, names, channel)?;
-    add_supply(alloc, names, value)
+    add_name(names, channel)?;
+    add_supply(names, value)
 }
 
-fn add_mentions(alloc: Global, names: &mut Vec<Ident>, node: &Node) -> Result<(), Memory>
+fn add_mentions(names: &mut Vec<Ident>, node: &Node) -> Result<(), Memory>
     ensures { OnOk result (names.new.items ≡ names.old.items ++ mentions node.now) }
 {
     match node {
-        Node::Let { term, .. } => add_term(alloc, names, term),
-        Node::Mul { left, right, .. } => add_terms(alloc, names, left, right),
-        Node::Div { term, .. } => add_term(alloc, names, term),
-        Node::Rem { term, .. } => add_term(alloc, names, term),
-        Node::Call { values, .. } => add_supplies(alloc, names, values.as_slice()),
-        Node::Tail { values, .. } => add_supplies(alloc, names, values.as_slice()),
-        Node::Fork { values, .. } => add_supplies(alloc, names, values.as_slice()),
-        Node::Send1 { channel, value, .. } => add_sent(alloc, names, channel, value),
-        Node::Recv1 { channel, .. } => add_name(alloc, names, channel),
-        Node::Print { term, .. } => add_term(alloc, names, term),
-        Node::If { left, right, .. } => add_terms(alloc, names, left, right),
-        Node::Split { name, .. } => add_name(alloc, names, name),
-        Node::Match { name, .. } => add_name(alloc, names, name),
+        Node::Let { term, .. } => add_term(names, term),
+        Node::Mul { left, right, .. } => add_terms(names, left, right),
+        Node::Div { term, .. } => add_term(names, term),
+        Node::Rem { term, .. } => add_term(names, term),
+        Node::Call { values, .. } => add_supplies(names, values.as_slice()),
+        Node::Tail { values, .. } => add_supplies(names, values.as_slice()),
+        Node::Fork { values, .. } => add_supplies(names, values.as_slice()),
+        Node::Send1 { channel, value, .. } => add_sent(names, channel, value),
+        Node::Recv1 { channel, .. } => add_name(names, channel),
+        Node::Print { term, .. } => add_term(names, term),
+        Node::If { left, right, .. } => add_terms(names, left, right),
+        Node::Split { name, .. } => add_name(names, name),
+        Node::Match { name, .. } => add_name(names, name),
         Node::Absurd { .. } => Ok(()),
-        Node::Ret { value, .. } => add_supply(alloc, names, value),
+        Node::Ret { value, .. } => add_supply(names, value),
     }
 }
 
@@ -49,6 +44,6 @@ pub(crate) fn mentions_of(alloc: Global, node: &Node) -> Result<Vec<Ident>, Memo
     ensures { IfOk result (λ names. names.items ≡ mentions node.now) }
 {
     let mut names = Vec::new(alloc);
-    add_mentions(alloc, &mut names, node)?;
+    add_mentions(&mut names, node)?;
     Ok(names)
 }

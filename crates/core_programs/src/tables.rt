@@ -84,7 +84,7 @@ pub(crate) fn proto_table(alloc: Global, protos: &[Proto]) -> Result<Table, Memo
 {
     let mut table = Table::new(alloc);
     for proto in protos {
-        table.add(alloc, &proto.name, proto.params.len())?;
+        table.add(&proto.name, proto.params.len())?;
     }
     Ok(table)
 }
@@ -95,7 +95,7 @@ pub(crate) fn func_table(alloc: Global, funcs: &[Func]) -> Result<Table, Memory>
 {
     let mut table = Table::new(alloc);
     for func in funcs {
-        table.add(alloc, &func.name, func.params.len())?;
+        table.add(&func.name, func.params.len())?;
     }
     Ok(table)
 }

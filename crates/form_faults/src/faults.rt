@@ -77,7 +77,7 @@ pub fn note_name(
 {
     if decides(first, kind, span) {
         let mut names = Items::new(alloc);
-        names.push(name.copy(alloc)?)?;
+        names.push(name.copy()?)?;
         *first = Some(Ill { kind, names, span });
     }
     Ok(())

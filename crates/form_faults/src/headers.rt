@@ -42,7 +42,7 @@ fn bind_param(
 {
     check_new(alloc, first, scope, &param.name, param.name_span)?;
     check_shape(alloc, first, protos, scope, &param.shape)?;
-    scope.bind(alloc, &param.name, Sort::Variable)
+    scope.bind(&param.name, Sort::Variable)
 }
 
 /// Binds parameters; the shape of each is read in the scope of the earlier ones.

@@ -78,12 +78,12 @@ impl Scope {
         self.trail.truncate(mark);
     }
 
-    fn put(&mut self, alloc: Global, name: &Ident, sort: Sort) -> Result<(), Memory>
+    fn put(&mut self, name: &Ident, sort: Sort) -> Result<(), Memory>
         requires { is_some (sort_of self.old name.now) ≡ false }
         ensures { OnOk result (self.new ≡ self.old ++ record { name = name.now; sort = sort } ∷ []) }
     {
-        let key = name.copy(alloc)?;
-        let name = name.copy(alloc)?;
+        let key = name.copy()?;
+        let name = name.copy()?;
         let place = self.trail.len();
         self.index.insert(key, place)?;
         self.trail.push(Known { name, sort })?;
@@ -92,12 +92,12 @@ impl Scope {
 
     /// Binds a name that isn't in scope; one that is stays what it is.
     #[tactic(auto, unfolding(crate::specs::Scopes::bind))]
-    pub fn bind(&mut self, alloc: Global, name: &Ident, sort: Sort) -> Result<(), Memory>
+    pub fn bind(&mut self, name: &Ident, sort: Sort) -> Result<(), Memory>
         ensures { OnOk result (self.new ≡ bind self.old name.now sort) }
     {
         match self.sort(name) {
             Some(_) => Ok(()),
-            None => self.put(alloc, name, sort),
+            None => self.put(name, sort),
         }
     }
 }
@@ -150,5 +150,5 @@ pub fn bind_name(
     ensures scope { OnOk result (scope.new ≡ bind scope.old name.now sort) }
 {
     check_new(alloc, first, scope, name, span)?;
-    scope.bind(alloc, name, sort)
+    scope.bind(name, sort)
 }

@@ -45,34 +45,34 @@ impl Table {
         }
     }
 
-    fn put(&mut self, alloc: Global, name: &Ident, count: usize) -> Result<(), Memory>
+    fn put(&mut self, name: &Ident, count: usize) -> Result<(), Memory>
         requires { is_some (count_of self.old name.now) ≡ false }
         ensures { OnOk result (self.new ≡ self.old ++ record { name = name.now; count = count } ∷ []) }
     {
-        let key = name.copy(alloc)?;
-        let name = name.copy(alloc)?;
+        let key = name.copy()?;
+        let name = name.copy()?;
         let place = self.signatures.len();
         self.places.insert(key, place)?;
         self.signatures.push(Signature { name, count })?;
         Ok(())
     }
 
-    fn put_again(&mut self, alloc: Global, name: &Ident, count: usize) -> Result<(), Memory>
+    fn put_again(&mut self, name: &Ident, count: usize) -> Result<(), Memory>
         requires { is_some (count_of self.old name.now) ≡ true }
         ensures { OnOk result (self.new ≡ self.old ++ record { name = name.now; count = count } ∷ []) }
     {
-        let name = name.copy(alloc)?;
+        let name = name.copy()?;
         self.signatures.push(Signature { name, count })?;
         Ok(())
     }
 
     /// Adds a declaration. Where its name is declared already the earlier one still counts.
-    pub fn add(&mut self, alloc: Global, name: &Ident, count: usize) -> Result<(), Memory>
+    pub fn add(&mut self, name: &Ident, count: usize) -> Result<(), Memory>
         ensures { OnOk result (self.new ≡ self.old ++ record { name = name.now; count = count } ∷ []) }
     {
         match self.count(name) {
-            None => self.put(alloc, name, count),
-            Some(_) => self.put_again(alloc, name, count),
+            None => self.put(name, count),
+            Some(_) => self.put_again(name, count),
         }
     }
 

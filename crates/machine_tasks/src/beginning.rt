@@ -37,7 +37,7 @@ impl Task {
         ensures ends { IfOk result (λ task. (test : EndTest) → TaskPasses test task) }
     {
         let frames = main_frames(alloc, program)?;
-        let name = Name::root(alloc);
+        let name = Name::root();
         Ok(Task {
             name,
             frames,

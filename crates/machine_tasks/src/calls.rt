@@ -129,7 +129,7 @@ fn bind_below(task: &mut Task, bind: Bind) -> Result<(), Memory>
 }
 
 /// The caller goes on with the value of the call.
-fn return_to(alloc: Global, program: &Program, task: &mut Task, value: Value) -> Result<(), Memory>
+fn return_to(program: &Program, task: &mut Task, value: Value) -> Result<(), Memory>
     requires two { 2 ≤ length task.old.frames.items }
     requires fits { FitsTask program.now task.old }
     ensures ok { (front : List Frame) (f : Frame) → HasTop task.old front f
@@ -142,7 +142,7 @@ fn return_to(alloc: Global, program: &Program, task: &mut Task, value: Value) ->
     let Node::Call { pat, next, .. } = program.node(caller.node) else {
         unreachable!();
     };
-    let name = pat.name.copy(alloc)?;
+    let name = pat.name.copy()?;
     bind_below(task, Bind { name, value })?;
     let _top = task.frames.pop();
     task.go_on(program, *next);
@@ -150,12 +150,7 @@ fn return_to(alloc: Global, program: &Program, task: &mut Task, value: Value) ->
 }
 
 /// The top frame ends with this value.
-pub(crate) fn give_back(
-    alloc: Global,
-    program: &Program,
-    task: &mut Task,
-    value: Value,
-) -> Result<(), Memory>
+pub(crate) fn give_back(program: &Program, task: &mut Task, value: Value) -> Result<(), Memory>
     requires fits { FitsTask program.now task.old }
     ensures ok { (front : List Frame) (f : Frame) → HasTop task.old front f
         → OnOk result (GoesTo program.now task.old task.new (place_after (returned (callers_of program.now.nodes front) (value_as value)))) }
@@ -166,6 +161,6 @@ pub(crate) fn give_back(
         task.frames.clear();
         Ok(())
     } else {
-        return_to(alloc, program, task, value)
+        return_to(program, task, value)
     }
 }

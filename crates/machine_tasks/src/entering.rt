@@ -28,7 +28,7 @@ fn bind_params(alloc: Global, params: &[Param], values: Values) -> Result<Binds,
         let Some(param) = params.get(binds.len()) else {
             return Ok(binds);
         };
-        let name = param.name.copy(alloc)?;
+        let name = param.name.copy()?;
         binds.push(Bind { name, value })?;
     }
     Ok(binds)

@@ -22,7 +22,6 @@ use std::alloc::Global;
 
 /// Binds the value and goes on at the node.
 fn assign(
-    alloc: Global,
     program: &Program,
     task: &mut Task,
     name: &Ident,
@@ -36,7 +35,7 @@ fn assign(
     ensures ends { OnOk result ((test : EndTest) → ValuePasses test value → TaskPasses test task.old → TaskPasses test task.new) }
     ensures err { OnErr result (IsUnmoved task.old task.new) }
 {
-    let name = name.copy(alloc)?;
+    let name = name.copy()?;
     task.make_room(1)?;
     task.bind(Bind { name, value });
     task.go_on(program, next);
@@ -44,15 +43,15 @@ fn assign(
 }
 
 /// Copies of the parts of a pair.
-fn parts(alloc: Global, value: Option<&Value>) -> Result<(Value, Value), Memory>
+fn parts(value: Option<&Value>) -> Result<(Value, Value), Memory>
     requires { IsPair (option_map (λ v. value_as v.now) value) }
     ensures parts { IfOk result (λ p. option_map (λ v. value_as v.now) value.entry ≡ Some (core.Pair (value_as p.0) (value_as p.1))) }
     ensures ends { IfOk result (λ p. (test : EndTest) → IfSome value.entry (λ v. ValuePasses test v.now) → ValuePasses test p.0 × ValuePasses test p.1) }
 {
     match value {
         Some(Value::Pair(first, second)) => {
-            let first = first.get().copy(alloc)?;
-            let second = second.get().copy(alloc)?;
+            let first = first.get().copy()?;
+            let second = second.get().copy()?;
             Ok((first, second))
         }
         _ => unreachable!(),
@@ -61,7 +60,6 @@ fn parts(alloc: Global, value: Option<&Value>) -> Result<(Value, Value), Memory>
 
 /// Binds the parts of the pair and goes on at the node.
 fn split(
-    alloc: Global,
     program: &Program,
     task: &mut Task,
     first: &Ident,
@@ -76,8 +74,8 @@ fn split(
     ensures ends { OnOk result ((test : EndTest) → ValuePasses test parts.0 → ValuePasses test parts.1 → TaskPasses test task.old → TaskPasses test task.new) }
     ensures err { OnErr result (IsUnmoved task.old task.new) }
 {
-    let first = first.copy(alloc)?;
-    let second = second.copy(alloc)?;
+    let first = first.copy()?;
+    let second = second.copy()?;
     task.make_room(2)?;
     task.bind(Bind {
         name: first,
@@ -92,7 +90,7 @@ fn split(
 }
 
 /// The number and a copy of the value of an arm.
-fn arm_of(alloc: Global, value: Option<&Value>) -> Result<(u8, Value), Memory>
+fn arm_of(value: Option<&Value>) -> Result<(u8, Value), Memory>
     requires { IsArm (option_map (λ v. value_as v.now) value) }
     ensures arm { IfOk result (λ p. option_map (λ v. value_as v.now) value.entry ≡ Some (core.Arm p.0 (value_as p.1))) }
     ensures ends { IfOk result (λ p. (test : EndTest) → IfSome value.entry (λ v. ValuePasses test v.now) → ValuePasses test p.1) }
@@ -100,7 +98,7 @@ fn arm_of(alloc: Global, value: Option<&Value>) -> Result<(u8, Value), Memory>
     match value {
         Some(Value::Arm(number, part)) => {
             let number = *number;
-            let part = part.get().copy(alloc)?;
+            let part = part.get().copy()?;
             Ok((number, part))
         }
         _ => unreachable!(),
@@ -128,7 +126,7 @@ impl Task {
                 ..
             } => {
                 let number = sum(binds, term).unwrap();
-                assign(alloc, program, self, name, Value::Int(number), *next)
+                assign(program, self, name, Value::Int(number), *next)
             }
             Node::Mul {
                 name,
@@ -138,7 +136,7 @@ impl Task {
                 ..
             } => {
                 let number = product_of_sums(binds, left, right).unwrap();
-                assign(alloc, program, self, name, Value::Int(number), *next)
+                assign(program, self, name, Value::Int(number), *next)
             }
             Node::Div {
                 name,
@@ -148,7 +146,7 @@ impl Task {
                 ..
             } => {
                 let number = quotient(binds, term, *divisor).unwrap();
-                assign(alloc, program, self, name, Value::Int(number), *next)
+                assign(program, self, name, Value::Int(number), *next)
             }
             Node::Rem {
                 name,
@@ -158,7 +156,7 @@ impl Task {
                 ..
             } => {
                 let number = remainder(binds, term, *divisor).unwrap();
-                assign(alloc, program, self, name, Value::Int(number), *next)
+                assign(program, self, name, Value::Int(number), *next)
             }
             Node::Call {
                 func,
@@ -196,29 +194,21 @@ impl Task {
                 next,
                 ..
             } => {
-                let parts = parts(alloc, lookup(binds, pair))?;
-                split(
-                    alloc,
-                    program,
-                    self,
-                    &first.name,
-                    &second.name,
-                    parts,
-                    *next,
-                )
+                let parts = parts(lookup(binds, pair))?;
+                split(program, self, &first.name, &second.name, parts, *next)
             }
             Node::Match {
                 name: choice,
                 arms,
                 ..
             } => {
-                let (number, value) = arm_of(alloc, lookup(binds, choice))?;
+                let (number, value) = arm_of(lookup(binds, choice))?;
                 let arm = &arms.as_slice()[usize::from(number)];
-                assign(alloc, program, self, &arm.pat.name, value, arm.next)
+                assign(program, self, &arm.pat.name, value, arm.next)
             }
             Node::Ret { value, .. } => {
                 let value = make(alloc, binds, value)?.unwrap();
-                give_back(alloc, program, self, value)
+                give_back(program, self, value)
             }
             Node::Fork { .. } => unreachable!(),
             Node::Send1 { .. } => unreachable!(),

@@ -56,10 +56,10 @@ pub struct Sending {
 }
 
 /// The end of the channel with this name and cell.
-fn end_of(alloc: Global, name: &Name, cell: Number) -> Result<Value, Memory>
+fn end_of(name: &Name, cell: Number) -> Result<Value, Memory>
     ensures { IfOk result (λ value. celled_of value ≡ End name.now cell.0) }
 {
-    let name = name.copy(alloc)?;
+    let name = name.copy()?;
     Ok(Value::End(Channel { name, cell }))
 }
 
@@ -111,10 +111,10 @@ impl Task {
         };
         let values = make_all(alloc, frame.binds.as_slice(), values.as_slice())?.unwrap();
         let child = self.name.child(alloc, self.forks)?;
-        let end = end_of(alloc, &child, cell)?;
+        let end = end_of(&child, cell)?;
         let frames = first_frames(alloc, program, func, end, values)?;
-        let value = end_of(alloc, &child, cell)?;
-        let name = name.copy(alloc)?;
+        let value = end_of(&child, cell)?;
+        let name = name.copy()?;
         Ok(Offspring {
             child: Task {
                 name: child,
@@ -143,7 +143,7 @@ impl Task {
     }
 
     /// The variable that a task whose act is Recv binds.
-    pub fn slot(&self, alloc: Global, program: &Program) -> Result<Slot, Memory>
+    pub fn slot(&self, program: &Program) -> Result<Slot, Memory>
         requires fits { FitsTask program.now self.now }
         requires act { IsRecv (act_in program.now self.now) }
         ensures { IfOk result (λ slot. Receives program.now self.now slot) }
@@ -154,7 +154,7 @@ impl Task {
         let Node::Recv1 { pat, next, .. } = program.node(frame.node) else {
             unreachable!();
         };
-        let name = pat.name.copy(alloc)?;
+        let name = pat.name.copy()?;
         Ok(Slot { name, next: *next })
     }
 
@@ -243,7 +243,7 @@ impl Task {
         if self.make_room(1).is_err() {
             return Err(Sending { task: self, value });
         }
-        match self.slot(alloc, program) {
+        match self.slot(program) {
             Ok(slot) => {
                 let Slot { name, next } = slot;
                 self.accept(program, Bind { name, value }, next);

@@ -17,7 +17,7 @@ fn one_task(alloc: Global, program: &Program) -> Result<Tasks, Memory> {
 
 /// The channel of the second fork of `main`, alone, with a 5 on it.
 fn one_channel(alloc: Global) -> Result<Stores, Memory> {
-    let name = Name::root(alloc).child(alloc, 1)?;
+    let name = Name::root().child(alloc, 1)?;
     let value = Some(Value::Int(5));
     let mut channels = Items::new(alloc);
     channels.push(Store { name, value })?;
@@ -26,7 +26,7 @@ fn one_channel(alloc: Global) -> Result<Stores, Memory> {
 
 /// A print of 7 by `main`.
 fn one_print(alloc: Global) -> Result<Puts, Memory> {
-    let name = Name::root(alloc);
+    let name = Name::root();
     let mut prints = Items::new(alloc);
     prints.push(Put { name, number: 7 })?;
     Ok(prints)
@@ -70,7 +70,7 @@ fn a_configuration_has_its_tasks(rt: HostRuntime) -> Result<(), Fail> {
     let program = program(alloc, SENDS_FIVE)?;
     let config = configuration(alloc, &program)?;
     assert_eq!(rt; config.tasks(alloc)?.len(), 1);
-    let main = Name::root(alloc);
+    let main = Name::root();
     assert!(rt; matches!(config.frames(&main), Some(frames) if frames.len() == 1));
     Ok(())
 }

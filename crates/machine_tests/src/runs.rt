@@ -164,7 +164,7 @@ fn looked(alloc: Global, text: &[u8], rounds: u64, at_main: bool) -> Result<Step
 {
     let program = program(alloc, text)?;
     let Replayed { config, .. } = replay(alloc, &program, rounds)?;
-    let main = Name::root(alloc);
+    let main = Name::root();
     let name = if at_main { main } else { main.child(alloc, 0)? };
     let looked = look(alloc, &program, &config, &name)?;
     Ok(looked)
@@ -228,7 +228,7 @@ fn is_first_fork(stepped: &Stepped) -> bool {
 /// What a look at `main` answers at the start.
 fn first_look(alloc: Global, program: &Program) -> Result<Stepped, Memory> {
     let config = start(alloc, program)?;
-    let main = Name::root(alloc);
+    let main = Name::root();
     let looked = look(alloc, program, &config, &main)?;
     Ok(looked)
 }
@@ -236,7 +236,7 @@ fn first_look(alloc: Global, program: &Program) -> Result<Stepped, Memory> {
 /// What a step of `main` answers at the start.
 fn first_step(alloc: Global, program: &Program) -> Result<Stepped, Memory> {
     let mut config = start(alloc, program)?;
-    let main = Name::root(alloc);
+    let main = Name::root();
     let stepped = step(alloc, program, &mut config, &main)?;
     Ok(stepped)
 }
@@ -257,7 +257,7 @@ fn a_run_comes_to_a_configuration(rt: HostRuntime) -> Result<(), Fail> {
     let alloc = rt.alloc();
     let program = program(alloc, SENDS_FIVE)?;
     let Replayed { config, .. } = replay(alloc, &program, 2)?;
-    let first = Name::root(alloc).child(alloc, 0)?;
+    let first = Name::root().child(alloc, 0)?;
     assert!(rt; matches!(config.stored(&first), Some(Value::Int(5))));
     assert!(rt; matches!(config.frames(&first), Some(frames) if frames.len() == 1));
     assert!(rt; config.prints().is_empty());

@@ -172,25 +172,25 @@ fn make_sum(binds: &[Bind], term: &Term) -> Result<Value, Trouble>
     }
 }
 
-fn make_known(alloc: Global, value: Option<&Value>) -> Result<Result<Value, Trouble>, Memory>
+fn make_known(value: Option<&Value>) -> Result<Result<Value, Trouble>, Memory>
     ensures value { IfOk result (λ made. made_of made ≡ known (option_map (λ v. value_as v.now) value.entry)) }
     ensures ends { IfOk result (λ made. (test : EndTest) → IfSome value.entry (λ v. ValuePasses test v.now) → MadePasses test made) }
 {
     match value {
         Some(value) => {
-            let value = value.copy(alloc)?;
+            let value = value.copy()?;
             Ok(Ok(value))
         }
         None => Ok(Err(NOT_INT)),
     }
 }
 
-fn make_term(alloc: Global, binds: &[Bind], term: &Term) -> Result<Result<Value, Trouble>, Memory>
+fn make_term(binds: &[Bind], term: &Term) -> Result<Result<Value, Trouble>, Memory>
     ensures value { IfOk result (λ made. made_of made ≡ term_value machine (env_of binds.now) (term_of term.now) (bare_name_of (term_of term.now))) }
     ensures ends { IfOk result (λ made. (test : EndTest) → BindsPass test binds.now → MadePasses test made) }
 {
     match bare_name(term) {
-        Some(name) => make_known(alloc, lookup(binds, name)),
+        Some(name) => make_known(lookup(binds, name)),
         None => Ok(make_sum(binds, term)),
     }
 }
@@ -215,7 +215,7 @@ pub fn make(
             let value = make(alloc, binds, value.get())?;
             make_arm(alloc, *number, value)
         }
-        Supply::Sum(term) => make_term(alloc, binds, term),
+        Supply::Sum(term) => make_term(binds, term),
     }
 }
 

@@ -112,8 +112,8 @@ impl Value {
         Ok(Value::Arm(number, value))
     }
 
-    /// A copy, which shares the parts. The copy of an end costs the length of its channel's name.
-    pub fn copy(&self, alloc: Global) -> Result<Value, Memory>
+    /// A copy, which shares the parts and the names of channels. It takes no memory.
+    pub fn copy(&self) -> Result<Value, Memory>
         ensures { IfOk result (λ copy. copy ≡ self.now) }
     {
         match self {
@@ -129,7 +129,7 @@ impl Value {
                 Ok(Value::Arm(*number, value))
             }
             Value::End(channel) => {
-                let name = channel.name.copy(alloc)?;
+                let name = channel.name.copy()?;
                 let cell = Number(channel.cell.0);
                 Ok(Value::End(Channel { name, cell }))
             }

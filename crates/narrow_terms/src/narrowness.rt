@@ -80,7 +80,7 @@ fn added(sums: &Sums, name: &Ident, part: &Part) -> i128
     count(sums, name) + part.times()
 }
 
-fn add(alloc: Global, sums: &mut Sums, part: &Part) -> Result<(), Memory>
+fn add(sums: &mut Sums, part: &Part) -> Result<(), Memory>
     requires { IsWithin (2 ^ 127 - 2 ^ 64) sums.old }
     ensures adds { OnOk result (Adds (part_of part.now) sums.old sums.new) }
     ensures within { OnOk result ((size : ℕ) → IsWithin size sums.old → IsWithin (size + 2 ^ 63) sums.new) }
@@ -91,7 +91,7 @@ fn add(alloc: Global, sums: &mut Sums, part: &Part) -> Result<(), Memory>
             Ok(())
         }
         Some(name) => {
-            let key = name.copy(alloc)?;
+            let key = name.copy()?;
             let sum = added(sums, name, part);
             sums.counts.insert(key, sum)?;
             Ok(())
@@ -116,7 +116,7 @@ fn sums_of(alloc: Global, parts: &[Part]) -> Result<Sums, Memory>
 {
     let mut sums = no_sums(alloc);
     for part in parts {
-        add(alloc, &mut sums, part)?;
+        add(&mut sums, part)?;
     }
     Ok(sums)
 }

@@ -56,7 +56,7 @@ pub fn normal(alloc: Global, term: &Term, context: &IntNames) -> Result<Row, Ter
 {
     let parts = term.parts.as_slice();
     match first_unknown(context, parts) {
-        Some(name) => Err(TermFault::NotInt(name.copy(alloc)?)),
+        Some(name) => Err(TermFault::NotInt(name.copy()?)),
         None => row_of(alloc, &sums_of(alloc, context, parts)?),
     }
 }

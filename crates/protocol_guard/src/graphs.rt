@@ -28,18 +28,13 @@ impl Turns {
     }
 }
 
-fn add_place(
-    alloc: Global,
-    places: &mut BTreeMap<Ident, usize>,
-    name: &Ident,
-    place: usize,
-) -> Result<(), Memory>
+fn add_place(places: &mut BTreeMap<Ident, usize>, name: &Ident, place: usize) -> Result<(), Memory>
     ensures { OnOk result (AddsPlace places.old places.new name.now place) }
 {
     match places.get(name) {
         Some(_) => Ok(()),
         None => {
-            let key = name.copy(alloc)?;
+            let key = name.copy()?;
             places.insert(key, place)?;
             Ok(())
         }
@@ -52,7 +47,7 @@ fn places_of(alloc: Global, protos: &[Proto]) -> Result<BTreeMap<Ident, usize>, 
     let mut places = BTreeMap::new(alloc);
     let mut index = 0;
     'protos: while index < protos.len() {
-        add_place(alloc, &mut places, &protos[index].name, index)?;
+        add_place(&mut places, &protos[index].name, index)?;
         index += 1;
     }
     Ok(places)

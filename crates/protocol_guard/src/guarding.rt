@@ -24,35 +24,25 @@ pub enum GuardFault {
     Memory,
 }
 
-fn add_name_of(
-    alloc: Global,
-    names: &mut Idents,
-    protos: &[Proto],
-    place: usize,
-) -> Result<(), Memory>
+fn add_name_of(names: &mut Idents, protos: &[Proto], place: usize) -> Result<(), Memory>
     ensures { OnOk result (names.new ≡ names.old ++ name_of (slice_get protos.now place)) }
 {
     match protos.get(place) {
         None => Ok(()),
         Some(proto) => {
-            let name = proto.name.copy(alloc)?;
+            let name = proto.name.copy()?;
             names.push(name)?;
             Ok(())
         }
     }
 }
 
-fn add_name(
-    alloc: Global,
-    names: &mut Idents,
-    protos: &[Proto],
-    at: Option<usize>,
-) -> Result<(), Memory>
+fn add_name(names: &mut Idents, protos: &[Proto], at: Option<usize>) -> Result<(), Memory>
     ensures { OnOk result (names.new ≡ names.old ++ name_at protos.now at) }
 {
     match at {
         None => Ok(()),
-        Some(place) => add_name_of(alloc, names, protos, place),
+        Some(place) => add_name_of(names, protos, place),
     }
 }
 
@@ -81,7 +71,7 @@ fn all_names(
     let mut names = Items::new(alloc);
     let mut at = Some(start);
     for turn in way {
-        add_name(alloc, &mut names, protos, at)?;
+        add_name(&mut names, protos, at)?;
         at = next(graph, at, *turn);
     }
     Ok(names)

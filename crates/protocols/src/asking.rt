@@ -43,44 +43,44 @@ fn arguments(alloc: Global, params: &Idents, args: &Terms) -> Result<IntVars, Me
     let mut vars = Items::new(alloc);
     for index in 0..params.len() {
         vars.push(IntVar {
-            name: params.as_slice()[index].copy(alloc)?,
+            name: params.as_slice()[index].copy()?,
             term: args.as_slice()[index].copy(alloc)?,
         })?;
     }
     Ok(vars)
 }
 
-fn push_all(alloc: Global, parts: &mut TermParts, term: &Term) -> Result<(), Memory>
+fn push_all(parts: &mut TermParts, term: &Term) -> Result<(), Memory>
     ensures { OnOk result (map part_of parts.new ≡ map part_of parts.old ++ term_of term.now) }
 {
     for part in term.parts.as_slice() {
-        parts.push(part.copy(alloc)?)?;
+        parts.push(part.copy()?)?;
     }
     Ok(())
 }
 
-fn turned(alloc: Global, part: &Part) -> Result<Part, Memory>
+fn turned(part: &Part) -> Result<Part, Memory>
     ensures { IfOk result (λ turned. part_of turned ≡ negated (part_of part.now)) }
 {
-    let mut turned = part.copy(alloc)?;
+    let mut turned = part.copy()?;
     turned.negative = !turned.negative;
     Ok(turned)
 }
 
-fn push_turned(alloc: Global, parts: &mut TermParts, term: &Term) -> Result<(), Memory>
+fn push_turned(parts: &mut TermParts, term: &Term) -> Result<(), Memory>
     ensures { OnOk result (map part_of parts.new ≡ map part_of parts.old ++ map negated (term_of term.now)) }
 {
     for part in term.parts.as_slice() {
-        parts.push(turned(alloc, part)?)?;
+        parts.push(turned(part)?)?;
     }
     Ok(())
 }
 
-fn push_less(alloc: Global, parts: &mut TermParts, left: &Term, right: &Term) -> Result<(), Memory>
+fn push_less(parts: &mut TermParts, left: &Term, right: &Term) -> Result<(), Memory>
     ensures { OnOk result (map part_of parts.new ≡ map part_of parts.old ++ less (term_of left.now) (term_of right.now)) }
 {
-    push_all(alloc, parts, left)?;
-    push_turned(alloc, parts, right)?;
+    push_all(parts, left)?;
+    push_turned(parts, right)?;
     Ok(())
 }
 
@@ -101,10 +101,10 @@ fn asked_term(alloc: Global, letter: Letter, left: &Term, right: &Term) -> Resul
 {
     let mut parts = Items::new(alloc);
     match letter {
-        Letter::Left => push_less(alloc, &mut parts, left, right)?,
+        Letter::Left => push_less(&mut parts, left, right)?,
         Letter::Right => {
             parts.push(one())?;
-            push_less(alloc, &mut parts, right, left)?;
+            push_less(&mut parts, right, left)?;
         }
     }
     Ok(Term {

@@ -84,7 +84,7 @@ pub fn dual(alloc: Global, proto: &Proto) -> Result<Proto, Memory>
     ensures places { IfOk result (λ dual. dual ≡ other_proto proto.now) }
 {
     Ok(Proto {
-        name: proto.name.copy(alloc)?,
+        name: proto.name.copy()?,
         name_span: proto.name_span,
         params: copy_names(alloc, &proto.params)?,
         params_spans: copy_spans(alloc, &proto.params_spans)?,

@@ -50,7 +50,7 @@ fn next_end(alloc: Global, proto: &Proto, end: &Ref, picked: &Ref) -> Result<Ref
     let args = subst_terms(alloc, &picked.args, &proto.params, &end.args)?;
     Ok(Ref {
         dual: picked.dual != end.dual,
-        name: picked.name.copy(alloc)?,
+        name: picked.name.copy()?,
         name_span: picked.name_span,
         args,
         span: picked.span,

@@ -95,7 +95,6 @@ pub(crate) fn add_if(
 
 /// Adds the choice of a body by a value.
 pub(crate) fn add_match(
-    alloc: Global,
     nodes: &mut Nodes,
     name: &Ident,
     name_span: Span,
@@ -106,7 +105,7 @@ pub(crate) fn add_match(
     ensures body { IfOk result (JoinsArms (λ blocks. last.Match name.now name_span blocks span) nodes.old nodes.new arms) }
 {
     let number = free_number(nodes)?;
-    let name = name.copy(alloc)?;
+    let name = name.copy()?;
     let node = Node::Match {
         name,
         name_span,

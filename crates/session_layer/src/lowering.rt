@@ -21,7 +21,7 @@ fn plain_proto(alloc: Global, proto: &SurfaceProto, equation: &Equation) -> Resu
     ensures { IfOk result (λ p. p ≡ proto_of proto.now equation.now) }
 {
     Ok(Proto {
-        name: proto.name.copy(alloc)?,
+        name: proto.name.copy()?,
         name_span: proto.name_span,
         params: copy_names(alloc, &proto.params)?,
         params_spans: copy_spans(alloc, &proto.params_spans)?,
@@ -34,7 +34,7 @@ fn plain_proto(alloc: Global, proto: &SurfaceProto, equation: &Equation) -> Resu
 fn named(alloc: Global, func: &SurfaceFunc) -> Result<(Ident, Bound), Memory>
     ensures { IfOk result (λ p. (p.0 ≡ func.now.name) × (p.1 ≡ func.now.bound)) }
 {
-    let name = func.name.copy(alloc)?;
+    let name = func.name.copy()?;
     let bound = func.bound.copy(alloc)?;
     Ok((name, bound))
 }

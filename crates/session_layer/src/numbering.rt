@@ -88,7 +88,7 @@ fn number_last(alloc: Global, nodes: &mut Nodes, last: &Last) -> Result<u32, Mem
             span,
         } => {
             let arms = number_arms(alloc, nodes, arms.as_slice())?;
-            let number = add_match(alloc, nodes, name, *name_span, arms, *span)?;
+            let number = add_match(nodes, name, *name_span, arms, *span)?;
             Ok(number)
         }
         Last::Ret { .. } => number_end(alloc, nodes, last),

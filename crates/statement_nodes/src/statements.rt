@@ -24,7 +24,7 @@ fn let_node(alloc: Global, stmt: &Stmt, next: u32) -> Result<Node, Memory>
         unreachable!();
     };
     Ok(Node::Let {
-        name: name.copy(alloc)?,
+        name: name.copy()?,
         name_span: *name_span,
         term: term.copy(alloc)?,
         next,
@@ -48,7 +48,7 @@ fn mul_node(alloc: Global, stmt: &Stmt, next: u32) -> Result<Node, Memory>
         unreachable!();
     };
     Ok(Node::Mul {
-        name: name.copy(alloc)?,
+        name: name.copy()?,
         name_span: *name_span,
         left: left.copy(alloc)?,
         right: right.copy(alloc)?,
@@ -74,7 +74,7 @@ fn div_node(alloc: Global, stmt: &Stmt, next: u32) -> Result<Node, Memory>
         unreachable!();
     };
     Ok(Node::Div {
-        name: name.copy(alloc)?,
+        name: name.copy()?,
         name_span: *name_span,
         term: term.copy(alloc)?,
         divisor: *divisor,
@@ -101,7 +101,7 @@ fn rem_node(alloc: Global, stmt: &Stmt, next: u32) -> Result<Node, Memory>
         unreachable!();
     };
     Ok(Node::Rem {
-        name: name.copy(alloc)?,
+        name: name.copy()?,
         name_span: *name_span,
         term: term.copy(alloc)?,
         divisor: *divisor,
@@ -120,7 +120,7 @@ pub fn called(
 ) -> Result<(Ident, Supplies, Proof), Memory>
     ensures { IfOk result (λ p. (p.0 ≡ func.now) × (p.1 ≡ values.now) × (p.2 ≡ proof.now)) }
 {
-    let func = func.copy(alloc)?;
+    let func = func.copy()?;
     let values = copy_supplies(alloc, values)?;
     let proof = proof.copy(alloc)?;
     Ok((func, values, proof))
@@ -173,7 +173,7 @@ fn fork_node(alloc: Global, stmt: &Stmt, next: u32) -> Result<Node, Memory>
     else {
         unreachable!();
     };
-    let name = name.copy(alloc)?;
+    let name = name.copy()?;
     let proto = proto.copy(alloc)?;
     let (func, values, proof) = called(alloc, func, values, proof)?;
     Ok(Node::Fork {
@@ -198,7 +198,7 @@ fn access(
 ) -> Result<(Ident, Path, Proof), Memory>
     ensures { IfOk result (λ p. (p.0 ≡ channel.now) × (p.1 ≡ path.now) × (p.2 ≡ proof.now)) }
 {
-    let channel = channel.copy(alloc)?;
+    let channel = channel.copy()?;
     let path = copy_path(alloc, path)?;
     let proof = proof.copy(alloc)?;
     Ok((channel, path, proof))
@@ -289,7 +289,7 @@ fn split_node(alloc: Global, stmt: &Stmt, next: u32) -> Result<Node, Memory>
     else {
         unreachable!();
     };
-    let name = name.copy(alloc)?;
+    let name = name.copy()?;
     let (first, second) = pats(alloc, first, second)?;
     Ok(Node::Split {
         first,

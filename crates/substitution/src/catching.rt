@@ -137,7 +137,7 @@ pub(crate) fn catches(
 ) -> Result<bool, Memory>
     ensures { IfOk result (λ caught. caught ≡ list_any (puts (map put_in put.now) name.now) (terms_of_res (before_of scope.now) (res_of res.now))) }
 {
-    let scope = joined(alloc, kept(alloc, &res.bound.names)?, scope)?;
+    let scope = joined(kept(alloc, &res.bound.names)?, scope)?;
     let in_limits = limits_put(scope.as_slice(), put, res.bound.limits.as_slice(), name);
     let in_shape = shape_puts(alloc, &scope, put, &res.shape, name)?;
     Ok(in_limits || in_shape)

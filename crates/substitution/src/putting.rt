@@ -16,7 +16,7 @@ use chan_syntax::{Ident, Part};
 use std::alloc::Global;
 
 /// Adds a part some times.
-fn add_part(alloc: Global, sums: &mut Summands, weight: i128, part: &Part) -> Result<(), Memory>
+fn add_part(sums: &mut Summands, weight: i128, part: &Part) -> Result<(), Memory>
     requires weight { unsigned_abs weight ≤ 2 ^ 63 }
     requires within { IsWithin (2 ^ 247) sums.old }
     ensures sums { OnOk result (Adds sums.old sums.new (counting (weight *ℤ times_of (part_of part.now)) part.now.name ∷ [])) }
@@ -24,7 +24,7 @@ fn add_part(alloc: Global, sums: &mut Summands, weight: i128, part: &Part) -> Re
     ensures places { OnOk result (Meets sums.old sums.new (token_of part.now)) }
 {
     match &part.name {
-        Some(name) => sums.add_name(alloc, name, part.name_span, weight, part.times()),
+        Some(name) => sums.add_name(name, part.name_span, weight, part.times()),
         None => {
             sums.add_number(weight, part.times());
             Ok(())
@@ -33,7 +33,7 @@ fn add_part(alloc: Global, sums: &mut Summands, weight: i128, part: &Part) -> Re
 }
 
 /// Adds a term some times.
-fn add_term(alloc: Global, sums: &mut Summands, weight: i128, parts: &[Part]) -> Result<(), Memory>
+fn add_term(sums: &mut Summands, weight: i128, parts: &[Part]) -> Result<(), Memory>
     requires weight { unsigned_abs weight ≤ 2 ^ 63 }
     requires within { IsWithin (2 ^ 246) sums.old }
     ensures sums { OnOk result (Adds sums.old sums.new (scaled weight (map part_of parts.now))) }
@@ -41,25 +41,24 @@ fn add_term(alloc: Global, sums: &mut Summands, weight: i128, parts: &[Part]) ->
     ensures places { OnOk result (Meets sums.old sums.new (flat_map token_of parts.now)) }
 {
     for part in parts {
-        add_part(alloc, sums, weight, part)?;
+        add_part(sums, weight, part)?;
     }
     Ok(())
 }
 
 /// Adds a name as often as a part counts it.
-fn add_once(alloc: Global, sums: &mut Summands, part: &Part, name: &Ident) -> Result<(), Memory>
+fn add_once(sums: &mut Summands, part: &Part, name: &Ident) -> Result<(), Memory>
     requires { IsWithin (2 ^ 246) sums.old }
     ensures sums { OnOk result (Adds sums.old sums.new (counting (times_of (part_of part.now)) (Some name.now) ∷ [])) }
     ensures within { OnOk result ((size : ℕ) → IsWithin size sums.old → IsWithin (size + 2 ^ 185) sums.new) }
     ensures places { OnOk result (Meets sums.old sums.new (record { name = name.now; place = part.now.name_span } ∷ [])) }
 {
-    sums.add_name(alloc, name, part.name_span, 1, part.times())?;
+    sums.add_name(name, part.name_span, 1, part.times())?;
     Ok(())
 }
 
 /// Adds what stands for a name, as often as a part counts it.
 fn add_named(
-    alloc: Global,
     scope: &[Binder],
     put: &[Put],
     sums: &mut Summands,
@@ -72,16 +71,15 @@ fn add_named(
     ensures places { OnOk result (Meets sums.old sums.new (tokens_put put.now scope.now name.now part.now.name_span)) }
 {
     match new_name(scope, name) {
-        Some(made) => add_once(alloc, sums, part, made),
+        Some(made) => add_once(sums, part, made),
         None => match put_named(put, name) {
-            Some(put) => add_term(alloc, sums, part.times(), put.term.parts.as_slice()),
-            None => add_once(alloc, sums, part, name),
+            Some(put) => add_term(sums, part.times(), put.term.parts.as_slice()),
+            None => add_once(sums, part, name),
         },
     }
 }
 
 fn add_replaced(
-    alloc: Global,
     scope: &[Binder],
     put: &[Put],
     sums: &mut Summands,
@@ -93,7 +91,7 @@ fn add_replaced(
     ensures places { OnOk result (Meets sums.old sums.new (part_put (before_of scope.now) (after_of scope.now) put.now part.now)) }
 {
     match &part.name {
-        Some(name) => add_named(alloc, scope, put, sums, part, name),
+        Some(name) => add_named(scope, put, sums, part, name),
         None => {
             sums.add_number(1, part.times());
             Ok(())
@@ -113,7 +111,7 @@ pub(crate) fn sums_of(
 {
     let mut sums = Summands::new(alloc);
     for part in parts {
-        add_replaced(alloc, scope, put, &mut sums, part)?;
+        add_replaced(scope, put, &mut sums, part)?;
     }
     Ok(sums)
 }

@@ -70,7 +70,7 @@ pub(crate) fn puts_of(alloc: Global, names: &Idents, by: &Terms) -> Result<Puts,
     let mut put = Items::new(alloc);
     for index in 0..names.len() {
         put.push(Put {
-            name: names.as_slice()[index].copy(alloc)?,
+            name: names.as_slice()[index].copy()?,
             term: by.as_slice()[index].copy(alloc)?,
         })?;
     }
@@ -78,23 +78,23 @@ pub(crate) fn puts_of(alloc: Global, names: &Idents, by: &Terms) -> Result<Puts,
 }
 
 impl Binder {
-    fn copy(&self, alloc: Global) -> Result<Binder, Memory>
+    fn copy(&self) -> Result<Binder, Memory>
         ensures { IfOk result (λ copy. copy ≡ self.now) }
     {
         Ok(Binder {
-            name: self.name.copy(alloc)?,
-            made: self.made.copy(alloc)?,
+            name: self.name.copy()?,
+            made: self.made.copy()?,
         })
     }
 }
 
 /// The binders of a resource, and then those around it.
-pub(crate) fn joined(alloc: Global, inner: Scope, outer: &Scope) -> Result<Scope, Memory>
+pub(crate) fn joined(inner: Scope, outer: &Scope) -> Result<Scope, Memory>
     ensures { IfOk result (λ scope. scope ≡ inner ++ outer.now) }
 {
     let mut scope = inner;
     for binder in outer.as_slice() {
-        scope.push(binder.copy(alloc)?)?;
+        scope.push(binder.copy()?)?;
     }
     Ok(scope)
 }
@@ -106,8 +106,8 @@ pub(crate) fn kept(alloc: Global, names: &Idents) -> Result<Scope, Memory>
     let mut scope = Items::new(alloc);
     for name in names.as_slice() {
         scope.push(Binder {
-            name: name.copy(alloc)?,
-            made: name.copy(alloc)?,
+            name: name.copy()?,
+            made: name.copy()?,
         })?;
     }
     Ok(scope)
@@ -118,7 +118,7 @@ pub(crate) fn made_names(alloc: Global, scope: &[Binder]) -> Result<Idents, Memo
 {
     let mut names = Items::new(alloc);
     for binder in scope {
-        names.push(binder.made.copy(alloc)?)?;
+        names.push(binder.made.copy()?)?;
     }
     Ok(names)
 }

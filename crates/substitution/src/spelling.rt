@@ -45,12 +45,7 @@ fn part(name: Option<Ident>, name_span: Option<Span>, number: i64) -> Part
 }
 
 /// A name and its sum, which is left out where it is 0.
-fn push_named(
-    alloc: Global,
-    parts: &mut TermParts,
-    name: &Ident,
-    summand: &Summand,
-) -> Result<(), SubstFault>
+fn push_named(parts: &mut TermParts, name: &Ident, summand: &Summand) -> Result<(), SubstFault>
     ensures ok { OnOk result (map part_of parts.new ≡ map part_of parts.old ++ named_parts (counted_once (name.now, summand.now.sum))) }
     ensures fits { OnOk result (fits summand.now.sum ≡ true) }
     ensures places { OnOk result (map where_of parts.new ≡ map where_of parts.old ++ where_in (name.now, summand.now)) }
@@ -58,7 +53,7 @@ fn push_named(
 {
     let number = number(&summand.sum)?;
     if number != 0 {
-        let name = name.copy(alloc)?;
+        let name = name.copy()?;
         parts.push(part(Some(name), summand.span, number))?;
     }
     Ok(())
@@ -72,7 +67,7 @@ fn named(alloc: Global, sums: &BTreeMap<Ident, Summand>) -> Result<TermParts, Su
 {
     let mut parts = Items::new(alloc);
     for (name, summand) in sums {
-        push_named(alloc, &mut parts, name, summand)?;
+        push_named(&mut parts, name, summand)?;
     }
     Ok(parts)
 }

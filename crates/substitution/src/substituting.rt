@@ -94,7 +94,7 @@ fn subst_ref(alloc: Global, put: &[Put], scope: &[Binder], from: &Ref) -> Result
 {
     Ok(Ref {
         dual: from.dual,
-        name: from.name.copy(alloc)?,
+        name: from.name.copy()?,
         name_span: from.name_span,
         args: subst_terms_in(alloc, put, scope, from.args.as_slice())?,
         span: from.span,
@@ -168,10 +168,10 @@ fn binder(
     let made = if caught {
         lengthened(alloc, name, made_length(longest, around)?)?
     } else {
-        name.copy(alloc)?
+        name.copy()?
     };
     Ok(Binder {
-        name: name.copy(alloc)?,
+        name: name.copy()?,
         made,
     })
 }
@@ -314,7 +314,7 @@ fn subst_res(
     ensures err { IfErr result (λ fault. IsMisfit fault (ResFits put.now scope.now (res_of res.now))) }
 {
     let group = binders(alloc, longest, put, scope, res)?;
-    let scope = joined(alloc, group, scope)?;
+    let scope = joined(group, scope)?;
     let bound = subst_bound(alloc, put, scope.as_slice(), &res.bound)?;
     let shape = subst_shape(alloc, longest, put, &scope, &res.shape)?;
     Ok(Res { bound, shape })

@@ -68,7 +68,6 @@ impl Summands {
 
     pub fn add_name(
         &mut self,
-        alloc: Global,
         name: &Ident,
         span: Option<Span>,
         weight: i128,
@@ -83,7 +82,7 @@ impl Summands {
     {
         let mut summand = self.take(name, span);
         summand.sum.add_product(weight, times);
-        self.named.insert(name.copy(alloc)?, summand)?;
+        self.named.insert(name.copy()?, summand)?;
         Ok(())
     }
 }
