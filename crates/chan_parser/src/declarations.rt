@@ -17,7 +17,7 @@ use chan_syntax::{
     Block, Body, Decl, Decls, Equation, Params, Ref, Refs, Res, Surface, SurfaceFunc, SurfaceProto,
 };
 use operand_parser::{bound, names, no_names, param, reference, res};
-use sqlite_items::Items;
+use sqlite_items::{Boxed, Items};
 use surface_grammar::{Named, Names, Word};
 use token_cursor::{Cursor, MORE_ARMS_THAN_TWO, Stop};
 
@@ -186,9 +186,9 @@ fn proto_body(cursor: &mut Cursor<'_>, depth: usize) -> Result<Body, Stop>
     ensures { Answers (At depth (word w.Equals ▷ (spec.pbody ◁ word w.Semicolon)) cursor.old) result cursor.new }
 {
     cursor.skip(Word::Equals)?;
-    let body = pbody(cursor, depth)?;
+    let body = Boxed::new(cursor.alloc(), pbody(cursor, depth)?)?;
     cursor.skip(Word::Semicolon)?;
-    Ok(body)
+    Ok(body.into_inner())
 }
 
 #[tactic(auto, unfolding(surface_grammar::specs::Declarations::proto, token_cursor::specs::Syntax::skip, token_cursor::specs::Syntax::name_at, surface_grammar::specs::Grammar::name))]

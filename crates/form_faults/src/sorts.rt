@@ -6,7 +6,7 @@ use chan_syntax::Ident;
 
 /// What a name stands for: a program variable, an integer variable, or one of each. The names of
 /// binders are integer variables; a product, a quotient and a rest bind both.
-#[derive(Clone, Copy, Debug, PartialEq, Eq)]
+#[derive(Clone, Copy)]
 pub enum Sort {
     Variable,
     Integer,
@@ -14,7 +14,7 @@ pub enum Sort {
 }
 
 /// Which names a term may use.
-#[derive(Clone, Copy, Debug, PartialEq, Eq)]
+#[derive(Clone, Copy)]
 pub enum Naming {
     Variables,
     Integers,

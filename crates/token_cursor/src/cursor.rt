@@ -18,7 +18,7 @@ use std::marker::Model;
 use surface_grammar::{Digits, Named, Route, Word, spelling};
 
 /// Why a text is not read to its end. The cursor stands at the fault.
-#[derive(Clone, Copy, Debug)]
+#[derive(Clone, Copy)]
 pub enum Stop {
     Unexpected,
     TooDeep,
