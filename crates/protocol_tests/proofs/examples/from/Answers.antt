@@ -1,8 +1,8 @@
 use Rattle.std.proofs.Common.{ap, map, sym, ◌∙◌}
 use Rattle.core_language.specs.Resources.{Ref}
 use Rattle.chan_syntax.specs.Reading.{term_of}
-use Rattle.rule_rows.proofs.Formed.{from_arity}
-use Rattle.rule_rows.proofs.examples.from.Goals as goal
+use Rattle.protocol_tests.proofs.Formed.{from_arity}
+use Rattle.protocol_tests.proofs.examples.from.Goals as goal
 
 pub returns : goal.returns
 returns c =

@@ -13,7 +13,7 @@ use Rattle.linear_forms.specs.Substitution.{Scoped}
 use Rattle.protocols.specs.Duals.{message_of, branches_of}
 use Rattle.protocols.specs.Heads.{proto_named}
 use Rattle.protocols.specs.Unfolding.{NamesOnly, NamesUnder, branch_terms, message_terms, HasArity, AreFormed}
-use Rattle.rule_rows.specs.Examples.{Stop, examples}
+use Rattle.protocol_tests.specs.Examples.{Stop, examples}
 
 -- ---- tests that compute
 

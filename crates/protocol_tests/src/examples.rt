@@ -4,16 +4,22 @@ ghost use Rattle.core_language.specs.Names.{same};
 ghost use Rattle.core_language.specs.Resources.{Branch};
 ghost use Rattle.chan_syntax.specs.Reading.{part_of, term_of, limit_of, bound_of, ref_of, res_of, equation_of, proto_of};
 ghost use Rattle.protocols.specs.Unfolding.{HasArity};
-ghost use Rattle.rule_rows.specs.Examples as spec;
+ghost use Rattle.protocol_tests.specs.Examples as spec;
 
-use crate::trees::NOWHERE;
-use chan_base::{Memory, Spans};
+use chan_base::{Memory, Span, Spans};
 use chan_syntax::{
     Bound, Equation, Ident, Idents, Limit, Limits, Part, Proto, Protos, Ref, Relation, Res, Shape,
     Term, Terms,
 };
 use sqlite_items::Items;
 use std::alloc::Global;
+
+pub(crate) const NOWHERE: Span = Span {
+    start: 0,
+    stop: 0,
+    line: 1,
+    column: 1,
+};
 
 const MOST: i64 = 9223372036854775807;
 
@@ -31,7 +37,7 @@ fn part(factor: i64, name: Option<Ident>) -> Part
 }
 
 /// `factor*n + constant`
-pub(crate) fn sum(alloc: Global, factor: i64, constant: i64) -> Result<Term, Memory>
+fn sum(alloc: Global, factor: i64, constant: i64) -> Result<Term, Memory>
     ensures { IfOk result (λ term. term_of term ≡ spec.sum factor constant) }
 {
     let name = Ident::from_slice(alloc, b"n")?;
@@ -85,19 +91,33 @@ fn high(alloc: Global) -> Result<Limit, Memory>
     Ok(at_most(name, most))
 }
 
+/// `0 <= k, k <= n`
+fn limits(alloc: Global) -> Result<Limits, Memory>
+    ensures { IfOk result (λ limits. map limit_of limits ≡ spec.low ∷ spec.high ∷ []) }
+{
+    let mut limits = Items::new(alloc);
+    limits.push(low(alloc)?)?;
+    limits.push(high(alloc)?)?;
+    Ok(limits)
+}
+
+fn one_name(alloc: Global, name: &[u8]) -> Result<Idents, Memory>
+    ensures { IfOk result (λ names. names ≡ name.now ∷ []) }
+{
+    let mut names = Items::new(alloc);
+    names.push(Ident::from_slice(alloc, name)?)?;
+    Ok(names)
+}
+
 /// `k: 0 <= k, k <= n`
 fn within(alloc: Global) -> Result<Bound, Memory>
     ensures { IfOk result (λ bound. bound_of bound ≡ spec.within) }
 {
-    let mut names = Items::new(alloc);
-    names.push(Ident::from_slice(alloc, b"k")?)?;
-    let mut limits = Items::new(alloc);
-    limits.push(low(alloc)?)?;
-    limits.push(high(alloc)?)?;
+    let names = one_name(alloc, b"k")?;
     Ok(Bound {
         names,
         names_spans: Spans::new(alloc),
-        limits,
+        limits: limits(alloc)?,
     })
 }
 
@@ -142,129 +162,133 @@ fn stop_end(alloc: Global) -> Result<Ref, Memory>
     })
 }
 
-fn parameter(alloc: Global) -> Result<Idents, Memory>
-    ensures { IfOk result (λ names. names ≡ spec.n ∷ []) }
-{
-    let mut names = Items::new(alloc);
-    names.push(Ident::from_slice(alloc, b"n")?)?;
-    Ok(names)
-}
-
-fn proto(alloc: Global, name: &[u8], equation: Equation) -> Result<Proto, Memory>
-    ensures { IfOk result (λ proto. proto_of proto ≡ spec.proto name.now (equation_of equation)) }
+/// A name and the parameter `n`.
+fn named(alloc: Global, name: &[u8]) -> Result<(Ident, Idents), Memory>
+    ensures name { IfOk result (λ named. named.0 ≡ name.now) }
+    ensures parameter { IfOk result (λ named. named.1 ≡ spec.n ∷ []) }
 {
     let name = Ident::from_slice(alloc, name)?;
-    let params = parameter(alloc)?;
-    Ok(Proto {
+    Ok((name, one_name(alloc, b"n")?))
+}
+
+fn proto(alloc: Global, named: (Ident, Idents), equation: Equation) -> Proto
+    ensures { proto_of result ≡ spec.defined named.0 named.1 (equation_of equation) }
+{
+    let (name, params) = named;
+    Proto {
         name,
         name_span: NOWHERE,
         params,
         params_spans: Spans::new(alloc),
         equation,
         span: NOWHERE,
-    })
+    }
 }
 
 fn stop(alloc: Global) -> Result<Proto, Memory>
     ensures { IfOk result (λ proto. proto_of proto ≡ spec.stop) }
 {
-    Ok(Proto {
-        name: Ident::from_slice(alloc, b"Stop")?,
-        name_span: NOWHERE,
-        params: Idents::new(alloc),
-        params_spans: Spans::new(alloc),
-        equation: Equation::Close,
-        span: NOWHERE,
-    })
+    let name = Ident::from_slice(alloc, b"Stop")?;
+    Ok(proto(alloc, (name, Idents::new(alloc)), Equation::Close))
 }
 
+/// `name(n) = if left <= right then this else other`, where a side is a factor of `n` and a number.
 fn branch(
     alloc: Global,
     name: &[u8],
-    left: Term,
-    right: Term,
+    left: (i64, i64),
+    right: (i64, i64),
     ends: (Ref, Ref),
 ) -> Result<Proto, Memory>
-    ensures { IfOk result (λ proto. proto_of proto ≡ spec.proto name.now (Branch (term_of left) (term_of right) (ref_of ends.0) (ref_of ends.1))) }
+    ensures { IfOk result (λ proto. proto_of proto ≡ spec.proto name.now (Branch (spec.sum left.0 left.1) (spec.sum right.0 right.1) (ref_of ends.0) (ref_of ends.1))) }
 {
+    let named = named(alloc, name)?;
+    let left = sum(alloc, left.0, left.1)?;
+    let right = sum(alloc, right.0, right.1)?;
     let (this, other) = ends;
-    proto(alloc, name, Equation::Branch(left, right, this, other))
+    Ok(proto(alloc, named, Equation::Branch(left, right, this, other)))
 }
 
 fn ping(alloc: Global) -> Result<Proto, Memory>
     ensures { IfOk result (λ proto. proto_of proto ≡ spec.ping) }
 {
     let ends = (stop_end(alloc)?, end(alloc, b"Go", 1, 0)?);
-    branch(alloc, b"Ping", sum(alloc, 1, 0)?, sum(alloc, 0, 0)?, ends)
+    branch(alloc, b"Ping", (1, 0), (0, 0), ends)
 }
 
 fn go(alloc: Global) -> Result<Proto, Memory>
     ensures { IfOk result (λ proto. proto_of proto ≡ spec.go) }
 {
-    let res = int(alloc, 1, 0)?;
+    let named = named(alloc, b"Go")?;
     let next = end(alloc, b"Pong", 1, 0)?;
-    proto(alloc, b"Go", Equation::Send(res, Some(next)))
+    let res = int(alloc, 1, 0)?;
+    Ok(proto(alloc, named, Equation::Send(res, Some(next))))
 }
 
 fn pong(alloc: Global) -> Result<Proto, Memory>
     ensures { IfOk result (λ proto. proto_of proto ≡ spec.pong) }
 {
-    let res = int(alloc, 1, 0)?;
+    let named = named(alloc, b"Pong")?;
     let next = end(alloc, b"Ping", 1, -1)?;
-    proto(alloc, b"Pong", Equation::Recv(res, Some(next)))
+    let res = int(alloc, 1, 0)?;
+    Ok(proto(alloc, named, Equation::Recv(res, Some(next))))
 }
 
 fn twice(alloc: Global) -> Result<Proto, Memory>
     ensures { IfOk result (λ proto. proto_of proto ≡ spec.twice) }
 {
     let ends = (end(alloc, b"Ping", 1, 0)?, end(alloc, b"Ping", 1, -1)?);
-    branch(alloc, b"Twice", sum(alloc, 1, 0)?, sum(alloc, 0, 0)?, ends)
+    branch(alloc, b"Twice", (1, 0), (0, 0), ends)
+}
+
+fn stop_ends(alloc: Global) -> Result<(Ref, Ref), Memory>
+    ensures this { IfOk result (λ ends. ref_of ends.0 ≡ spec.stop_end) }
+    ensures other { IfOk result (λ ends. ref_of ends.1 ≡ spec.stop_end) }
+{
+    Ok((stop_end(alloc)?, stop_end(alloc)?))
 }
 
 fn big(alloc: Global) -> Result<Proto, Memory>
     ensures { IfOk result (λ proto. proto_of proto ≡ spec.big) }
 {
-    let ends = (stop_end(alloc)?, stop_end(alloc)?);
-    branch(alloc, b"Big", sum(alloc, MOST, 0)?, sum(alloc, 0, 0)?, ends)
+    let ends = stop_ends(alloc)?;
+    branch(alloc, b"Big", (MOST, 0), (0, 0), ends)
 }
 
 fn wide(alloc: Global) -> Result<Proto, Memory>
     ensures { IfOk result (λ proto. proto_of proto ≡ spec.wide) }
 {
-    let ends = (stop_end(alloc)?, stop_end(alloc)?);
-    branch(
-        alloc,
-        b"Wide",
-        sum(alloc, 1, 0)?,
-        sum(alloc, 0, LEAST)?,
-        ends,
-    )
+    let ends = stop_ends(alloc)?;
+    branch(alloc, b"Wide", (1, 0), (0, LEAST), ends)
 }
 
 fn far(alloc: Global) -> Result<Proto, Memory>
     ensures { IfOk result (λ proto. proto_of proto ≡ spec.far) }
 {
     let ends = (end(alloc, b"Quiet", MOST, 0)?, stop_end(alloc)?);
-    branch(alloc, b"Far", sum(alloc, 1, 0)?, sum(alloc, 0, 0)?, ends)
+    branch(alloc, b"Far", (1, 0), (0, 0), ends)
 }
 
 fn quiet(alloc: Global) -> Result<Proto, Memory>
     ensures { IfOk result (λ proto. proto_of proto ≡ spec.quiet) }
 {
-    proto(alloc, b"Quiet", Equation::Close)
+    let named = named(alloc, b"Quiet")?;
+    Ok(proto(alloc, named, Equation::Close))
 }
 
 fn load(alloc: Global) -> Result<Proto, Memory>
     ensures { IfOk result (λ proto. proto_of proto ≡ spec.load) }
 {
+    let named = named(alloc, b"Load")?;
     let res = int(alloc, MOST, 0)?;
-    proto(alloc, b"Load", Equation::Send(res, None))
+    Ok(proto(alloc, named, Equation::Send(res, None)))
 }
 
 fn rest(alloc: Global) -> Result<Proto, Memory>
     ensures { IfOk result (λ proto. proto_of proto ≡ spec.rest) }
 {
-    proto(alloc, b"Rest", Equation::Wait)
+    let named = named(alloc, b"Rest")?;
+    Ok(proto(alloc, named, Equation::Wait))
 }
 
 /// `[k: 0 <= k, k <= n] int(k)`
@@ -282,29 +306,53 @@ fn asked(alloc: Global) -> Result<Res, Memory>
 fn ask(alloc: Global) -> Result<Proto, Memory>
     ensures { IfOk result (λ proto. proto_of proto ≡ spec.ask) }
 {
+    let named = named(alloc, b"Ask")?;
     let next = stop_end(alloc)?;
     let res = asked(alloc)?;
-    proto(alloc, b"Ask", Equation::Recv(res, Some(next)))
+    Ok(proto(alloc, named, Equation::Recv(res, Some(next))))
 }
 
+fn loops(alloc: Global) -> Result<Protos, Memory>
+    ensures { IfOk result (λ protos. map proto_of protos ≡ spec.ping ∷ spec.go ∷ spec.pong ∷ spec.stop ∷ []) }
+{
+    let mut all = Protos::new(alloc);
+    all.push(ping(alloc)?)?;
+    all.push(go(alloc)?)?;
+    all.push(pong(alloc)?)?;
+    all.push(stop(alloc)?)?;
+    Ok(all)
+}
+
+fn branches(alloc: Global) -> Result<Protos, Memory>
+    ensures { IfOk result (λ protos. map proto_of protos ≡ spec.twice ∷ spec.big ∷ spec.wide ∷ spec.far ∷ []) }
+{
+    let mut all = Protos::new(alloc);
+    all.push(twice(alloc)?)?;
+    all.push(big(alloc)?)?;
+    all.push(wide(alloc)?)?;
+    all.push(far(alloc)?)?;
+    Ok(all)
+}
+
+fn endings(alloc: Global) -> Result<Protos, Memory>
+    ensures { IfOk result (λ protos. map proto_of protos ≡ spec.quiet ∷ spec.load ∷ spec.rest ∷ spec.ask ∷ []) }
+{
+    let mut all = Protos::new(alloc);
+    all.push(quiet(alloc)?)?;
+    all.push(load(alloc)?)?;
+    all.push(rest(alloc)?)?;
+    all.push(ask(alloc)?)?;
+    Ok(all)
+}
+
+#[tactic(auto, using(std::proofs::lemmas::Grind::common_steps))]
 pub(crate) fn protos(alloc: Global) -> Result<Protos, Memory>
     ensures { IfOk result (λ protos. map proto_of protos ≡ spec.examples) }
 {
-    let all = vec![in alloc;
-        ping(alloc)?,
-        go(alloc)?,
-        pong(alloc)?,
-        stop(alloc)?,
-        twice(alloc)?,
-        big(alloc)?,
-        wide(alloc)?,
-        far(alloc)?,
-        quiet(alloc)?,
-        load(alloc)?,
-        rest(alloc)?,
-        ask(alloc)?,
-    ]?;
-    Ok(Protos::from_vec(all))
+    let mut all = loops(alloc)?;
+    all.append(branches(alloc)?)?;
+    all.append(endings(alloc)?)?;
+    Ok(all)
 }
 
 fn is_stop(name: &[u8]) -> bool

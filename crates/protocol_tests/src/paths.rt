@@ -4,11 +4,10 @@ ghost use Rattle.farkas_check.specs.Rows.{IsNarrow};
 ghost use Rattle.chan_syntax.specs.Bounds.{IsBounded};
 ghost use Rattle.chan_syntax.specs.Reading.{ref_of};
 ghost use Rattle.protocols.specs.Unfolding.{HasArity};
-ghost use Rattle.rule_rows.specs.Examples.{examples};
+ghost use Rattle.protocol_tests.specs.Examples.{examples};
 
-use crate::examples::{from, protos};
-use crate::spelling::{push, push_number, push_res};
-use crate::trees::NOWHERE;
+use crate::examples::{NOWHERE, from, protos};
+use crate::rows::is_told;
 use chan_base::Memory;
 use chan_syntax::Letter::{Left, Right};
 use chan_syntax::{Certs, Ident, Letter, Path, Ref, WrittenCert, WrittenMention, WrittenMentions};
@@ -17,19 +16,24 @@ use outline_rules::{IntNames, IntVars};
 use protocols::{Head, UnfoldFault, Unfolded, unfold};
 use sqlite_items::Items;
 use std::alloc::Global;
+use std::process::Abort;
 use std::test::Fail;
+use tree_texts::{push, push_number, push_res};
 
 /// A certificate that mentions a hypothesis: whether its factor is negative, the factor, and the
 /// hypothesis's number.
 type Mentioned = (bool, u16, u16);
 
 /// An end, where it is followed to, by which certificates, and the hypothesis.
-type Case<'a> = (
-    (bool, &'a [u8], (i64, i64)),
-    &'a [Letter],
-    &'a [Mentioned],
+type Way = (
+    (bool, &'static [u8], (i64, i64)),
+    &'static [Letter],
+    &'static [Mentioned],
     (i64, i64),
 );
+
+/// A way, and the head that is found there, or the fault.
+type Case = (Way, &'static [u8]);
 
 fn cert(alloc: Global, mentioned: Mentioned) -> Result<WrittenCert, Memory>
     ensures { IfOk result IsBounded }
@@ -106,11 +110,11 @@ fn followed(
     unfold(alloc, &protos, from, &path, certs, hyps, &names)
 }
 
-fn unfolded(alloc: Global, case: &Case<'_>) -> Result<Unfolded, UnfoldFault> {
-    let from = from(alloc, case.0.0, case.0.1, case.0.2)?;
-    let certs = certs(alloc, case.2)?;
-    let hyps = hypotheses(alloc, case.3)?;
-    followed(alloc, &from, case.1, &certs, &hyps)
+fn unfolded(alloc: Global, way: &Way) -> Result<Unfolded, UnfoldFault> {
+    let from = from(alloc, way.0.0, way.0.1, way.0.2)?;
+    let certs = certs(alloc, way.2)?;
+    let hyps = hypotheses(alloc, way.3)?;
+    followed(alloc, &from, way.1, &certs, &hyps)
 }
 
 fn push_head(alloc: Global, out: &mut Vec<u8>, head: &Head) -> Result<(), Memory> {
@@ -165,8 +169,15 @@ fn told(alloc: Global, answer: &Result<Unfolded, UnfoldFault>) -> Result<Vec<u8>
 }
 
 /// The head of an end and how many certificates were taken, or the fault, as a text.
-fn answer(alloc: Global, case: &Case<'_>) -> Result<Vec<u8>, Memory> {
-    told(alloc, &unfolded(alloc, case))
+fn answer(alloc: Global, way: &Way) -> Result<Vec<u8>, Memory> {
+    told(alloc, &unfolded(alloc, way))
+}
+
+fn have_heads(rt: &(impl Abort + AllocGlobal), cases: &[Case]) -> Result<(), Fail> {
+    for (way, want) in cases {
+        is_told(rt, answer(rt.alloc(), way), want)?;
+    }
+    Ok(())
 }
 
 const FIRST: &[Mentioned] = &[(false, 1, 0)];
@@ -187,164 +198,152 @@ const HIGH: (i64, i64) = (-1, 1);
 
 const N: (i64, i64) = (1, 0);
 
+static WAYS: [Case; 11] = [
+    (((false, b"Ping", N), &[Left], FIRST, LOW), b"1 send unit"),
+    (
+        ((false, b"Ping", N), &[Right], FIRST, HIGH),
+        b"1 send (int +1*n, end ~Pong +1*n)",
+    ),
+    (((true, b"Ping", N), &[Left], FIRST, LOW), b"1 recv unit"),
+    (
+        ((true, b"Ping", N), &[Right], FIRST, HIGH),
+        b"1 recv (int +1*n, end ~Pong +1*n)",
+    ),
+    (
+        ((false, b"Pong", N), &[], &[], LOW),
+        b"0 recv (int +1*n, end Ping +1*n-1)",
+    ),
+    (
+        ((true, b"Pong", N), &[], &[], LOW),
+        b"0 send (int +1*n, end Ping +1*n-1)",
+    ),
+    (
+        ((false, b"Ping", (0, 0)), &[Left], &[], LOW),
+        b"0 send unit",
+    ),
+    (
+        ((false, b"Ping", (0, 1)), &[Right], FIRST, LOW),
+        b"0 send (int +1, end ~Pong +1)",
+    ),
+    (
+        ((false, b"Twice", N), &[Left, Left], BOTH, LOW),
+        b"2 send unit",
+    ),
+    (
+        ((false, b"Far", (2, 0)), &[Right], DOUBLE, HIGH),
+        b"1 send unit",
+    ),
+    (
+        ((false, b"Load", N), &[], &[], LOW),
+        b"0 send int +9223372036854775807*n",
+    ),
+];
+
+static ENDINGS: [Case; 4] = [
+    (((false, b"Quiet", N), &[], &[], LOW), b"0 send unit"),
+    (((true, b"Quiet", N), &[], &[], LOW), b"0 recv unit"),
+    (((false, b"Rest", N), &[], &[], LOW), b"0 recv unit"),
+    (((true, b"Rest", N), &[], &[], LOW), b"0 send unit"),
+];
+
+static MESSAGES: [Case; 3] = [
+    (
+        ((false, b"Ask", N), &[], &[], LOW),
+        b"0 recv [k: +0 <= +1*k, +1*k <= +1*n] (int +1*k, end Stop)",
+    ),
+    (
+        ((true, b"Ask", (2, 1)), &[], &[], LOW),
+        b"0 send [k: +0 <= +1*k, +1*k <= +2*n+1] (int +1*k, end Stop)",
+    ),
+    (
+        ((false, b"Ask", (0, 9)), &[], &[], LOW),
+        b"0 recv [k: +0 <= +1*k, +1*k <= +9] (int +1*k, end Stop)",
+    ),
+];
+
+static FORMS: [Case; 5] = [
+    (((false, b"Ping", N), &[], &[], LOW), b"wrong form"),
+    (
+        ((false, b"Ping", N), &[Left, Left], FIRST, LOW),
+        b"wrong form",
+    ),
+    (((false, b"Go", N), &[Left], FIRST, LOW), b"wrong form"),
+    (((false, b"Twice", N), &[Left], FIRST, LOW), b"wrong form"),
+    (((true, b"Big", (2, 0)), &[], &[], LOW), b"wrong form"),
+];
+
+static PROOFS: [Case; 8] = [
+    (((false, b"Ping", N), &[Left], &[], LOW), b"no certificate"),
+    (
+        ((false, b"Ping", (0, 1)), &[Left], &[], LOW),
+        b"no certificate",
+    ),
+    (
+        ((false, b"Twice", N), &[Left, Left], FIRST, LOW),
+        b"no certificate",
+    ),
+    (
+        ((false, b"Twice", N), &[Left, Left], NO_INDEX, LOW),
+        b"1 not proved: bad index",
+    ),
+    (
+        ((false, b"Ping", N), &[Left], NEGATIVE, LOW),
+        b"0 not proved: negative",
+    ),
+    (
+        ((false, b"Twice", N), &[Left, Right], BOTH, LOW),
+        b"1 not proved: not equal",
+    ),
+    (
+        ((false, b"Ping", N), &[Left], FIRST, (1, -5)),
+        b"0 not proved: constant",
+    ),
+    (
+        ((false, b"Far", (2, 0)), &[Left], &[], LOW),
+        b"no certificate",
+    ),
+];
+
+static LARGE: [Case; 5] = [
+    (((false, b"Big", (2, 0)), &[Left], &[], LOW), b"too large"),
+    (((false, b"Wide", N), &[Left], &[], LOW), b"too large"),
+    (
+        ((false, b"Wide", N), &[Right], FIRST, (-1, 0)),
+        b"1 send unit",
+    ),
+    (
+        ((false, b"Far", (2, 0)), &[Left], DOUBLE, LOW),
+        b"too large",
+    ),
+    (((false, b"Load", (2, 0)), &[], &[], LOW), b"too large"),
+];
+
 #[test]
 fn an_end_has_the_head_of_its_way(rt: HostRuntime) -> Result<(), Fail> {
-    let rows: [(Case<'_>, &[u8]); 11] = [
-        (((false, b"Ping", N), &[Left], FIRST, LOW), b"1 send unit"),
-        (
-            ((false, b"Ping", N), &[Right], FIRST, HIGH),
-            b"1 send (int +1*n, end ~Pong +1*n)",
-        ),
-        (((true, b"Ping", N), &[Left], FIRST, LOW), b"1 recv unit"),
-        (
-            ((true, b"Ping", N), &[Right], FIRST, HIGH),
-            b"1 recv (int +1*n, end ~Pong +1*n)",
-        ),
-        (
-            ((false, b"Pong", N), &[], &[], LOW),
-            b"0 recv (int +1*n, end Ping +1*n-1)",
-        ),
-        (
-            ((true, b"Pong", N), &[], &[], LOW),
-            b"0 send (int +1*n, end Ping +1*n-1)",
-        ),
-        (
-            ((false, b"Ping", (0, 0)), &[Left], &[], LOW),
-            b"0 send unit",
-        ),
-        (
-            ((false, b"Ping", (0, 1)), &[Right], FIRST, LOW),
-            b"0 send (int +1, end ~Pong +1)",
-        ),
-        (
-            ((false, b"Twice", N), &[Left, Left], BOTH, LOW),
-            b"2 send unit",
-        ),
-        (
-            ((false, b"Far", (2, 0)), &[Right], DOUBLE, HIGH),
-            b"1 send unit",
-        ),
-        (
-            ((false, b"Load", N), &[], &[], LOW),
-            b"0 send int +9223372036854775807*n",
-        ),
-    ];
-    for (case, want) in rows {
-        assert_eq!(rt; answer(rt.alloc(), &case)?.as_slice(), want);
-    }
-    Ok(())
+    have_heads(&rt, &WAYS)
 }
 
 #[test]
 fn an_end_that_ends_sends_or_receives_nothing(rt: HostRuntime) -> Result<(), Fail> {
-    let rows: [(Case<'_>, &[u8]); 4] = [
-        (((false, b"Quiet", N), &[], &[], LOW), b"0 send unit"),
-        (((true, b"Quiet", N), &[], &[], LOW), b"0 recv unit"),
-        (((false, b"Rest", N), &[], &[], LOW), b"0 recv unit"),
-        (((true, b"Rest", N), &[], &[], LOW), b"0 send unit"),
-    ];
-    for (case, want) in rows {
-        assert_eq!(rt; answer(rt.alloc(), &case)?.as_slice(), want);
-    }
-    Ok(())
+    have_heads(&rt, &ENDINGS)
 }
 
 #[test]
 fn a_message_keeps_its_binders_and_limits(rt: HostRuntime) -> Result<(), Fail> {
-    let rows: [(Case<'_>, &[u8]); 3] = [
-        (
-            ((false, b"Ask", N), &[], &[], LOW),
-            b"0 recv [k: +0 <= +1*k, +1*k <= +1*n] (int +1*k, end Stop)",
-        ),
-        (
-            ((true, b"Ask", (2, 1)), &[], &[], LOW),
-            b"0 send [k: +0 <= +1*k, +1*k <= +2*n+1] (int +1*k, end Stop)",
-        ),
-        (
-            ((false, b"Ask", (0, 9)), &[], &[], LOW),
-            b"0 recv [k: +0 <= +1*k, +1*k <= +9] (int +1*k, end Stop)",
-        ),
-    ];
-    for (case, want) in rows {
-        assert_eq!(rt; answer(rt.alloc(), &case)?.as_slice(), want);
-    }
-    Ok(())
+    have_heads(&rt, &MESSAGES)
 }
 
 #[test]
 fn the_form_of_the_path_comes_first(rt: HostRuntime) -> Result<(), Fail> {
-    let rows: [(Case<'_>, &[u8]); 5] = [
-        (((false, b"Ping", N), &[], &[], LOW), b"wrong form"),
-        (
-            ((false, b"Ping", N), &[Left, Left], FIRST, LOW),
-            b"wrong form",
-        ),
-        (((false, b"Go", N), &[Left], FIRST, LOW), b"wrong form"),
-        (((false, b"Twice", N), &[Left], FIRST, LOW), b"wrong form"),
-        (((true, b"Big", (2, 0)), &[], &[], LOW), b"wrong form"),
-    ];
-    for (case, want) in rows {
-        assert_eq!(rt; answer(rt.alloc(), &case)?.as_slice(), want);
-    }
-    Ok(())
+    have_heads(&rt, &FORMS)
 }
 
 #[test]
 fn each_letter_is_shown_in_order(rt: HostRuntime) -> Result<(), Fail> {
-    let rows: [(Case<'_>, &[u8]); 8] = [
-        (((false, b"Ping", N), &[Left], &[], LOW), b"no certificate"),
-        (
-            ((false, b"Ping", (0, 1)), &[Left], &[], LOW),
-            b"no certificate",
-        ),
-        (
-            ((false, b"Twice", N), &[Left, Left], FIRST, LOW),
-            b"no certificate",
-        ),
-        (
-            ((false, b"Twice", N), &[Left, Left], NO_INDEX, LOW),
-            b"1 not proved: bad index",
-        ),
-        (
-            ((false, b"Ping", N), &[Left], NEGATIVE, LOW),
-            b"0 not proved: negative",
-        ),
-        (
-            ((false, b"Twice", N), &[Left, Right], BOTH, LOW),
-            b"1 not proved: not equal",
-        ),
-        (
-            ((false, b"Ping", N), &[Left], FIRST, (1, -5)),
-            b"0 not proved: constant",
-        ),
-        (
-            ((false, b"Far", (2, 0)), &[Left], &[], LOW),
-            b"no certificate",
-        ),
-    ];
-    for (case, want) in rows {
-        assert_eq!(rt; answer(rt.alloc(), &case)?.as_slice(), want);
-    }
-    Ok(())
+    have_heads(&rt, &PROOFS)
 }
 
 #[test]
 fn numbers_are_too_large_at_each_place(rt: HostRuntime) -> Result<(), Fail> {
-    let rows: [(Case<'_>, &[u8]); 5] = [
-        (((false, b"Big", (2, 0)), &[Left], &[], LOW), b"too large"),
-        (((false, b"Wide", N), &[Left], &[], LOW), b"too large"),
-        (
-            ((false, b"Wide", N), &[Right], FIRST, (-1, 0)),
-            b"1 send unit",
-        ),
-        (
-            ((false, b"Far", (2, 0)), &[Left], DOUBLE, LOW),
-            b"too large",
-        ),
-        (((false, b"Load", (2, 0)), &[], &[], LOW), b"too large"),
-    ];
-    for (case, want) in rows {
-        assert_eq!(rt; answer(rt.alloc(), &case)?.as_slice(), want);
-    }
-    Ok(())
+    have_heads(&rt, &LARGE)
 }

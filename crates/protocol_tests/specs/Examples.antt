@@ -95,9 +95,12 @@ end name arg = record { dual = false; name = name; args = arg ∷ [] }
 abbrev pub stop_end : Ref
 stop_end = record { dual = false; name = Stop; args = [] }
 
+abbrev pub defined : Ident → List Ident → Equation → Proto
+defined name params equation = record { name = name; params = params; equation = equation }
+
 -- a protocol with the parameter `n`
 abbrev pub proto : Ident → Equation → Proto
-proto name equation = record { name = name; params = n ∷ []; equation = equation }
+proto name equation = defined name (n ∷ []) equation
 
 -- ---- protocols
 
@@ -115,7 +118,7 @@ pong = proto Pong (Recv (int (pos 1) (pos 0)) (Some (end Ping (sum (pos 1) (negs
 
 -- close
 abbrev pub stop : Proto
-stop = record { name = Stop; params = []; equation = Close }
+stop = defined Stop [] Close
 
 -- if n <= 0 then Ping(n) else Ping(n - 1)
 abbrev pub twice : Proto

@@ -1,5 +1,5 @@
 //! Trees of what a table holds.
-use chan_base::{Memory, Span};
+use chan_base::{Memory, Span, Spans};
 use chan_syntax::{
     Bound, Ident, Idents, Limit, Limits, Part, Ref, Relation, Res, Shape, Term, Terms,
 };
@@ -108,13 +108,6 @@ pub(crate) fn int(alloc: Global, binders: &[u8], times: &[Times]) -> Result<Res,
     int_within(alloc, binders, &[], times)
 }
 
-fn nothing(alloc: Global) -> Result<Res, Memory> {
-    Ok(Res {
-        bound: bound(alloc, b"", &[])?,
-        shape: Shape::Unit,
-    })
-}
-
 fn dual_ref(alloc: Global, args: &[&[Times]]) -> Result<Ref, Memory> {
     Ok(Ref {
         dual: true,
@@ -134,6 +127,36 @@ pub(crate) fn dual_end(alloc: Global, binders: &[u8], args: &[&[Times]]) -> Resu
     })
 }
 
+fn no_bound(alloc: Global) -> Bound {
+    Bound {
+        names: Idents::new(alloc),
+        names_spans: Spans::new(alloc),
+        limits: Limits::new(alloc),
+    }
+}
+
+fn nothing(alloc: Global) -> Res {
+    Res {
+        bound: no_bound(alloc),
+        shape: Shape::Unit,
+    }
+}
+
+/// An integer under binders, to be part of a pair.
+pub(crate) fn boxed_int(
+    alloc: Global,
+    binders: &[u8],
+    times: &[Times],
+) -> Result<Boxed<Res>, Memory> {
+    Ok(Boxed::new(alloc, int(alloc, binders, times)?)?)
+}
+
+fn int_and_nothing(alloc: Global, binders: &[u8], times: &[Times]) -> Result<Shape, Memory> {
+    let first = boxed_int(alloc, binders, times)?;
+    let second = Boxed::new(alloc, nothing(alloc))?;
+    Ok(Shape::Pair(first, second))
+}
+
 /// A pair of an integer and nothing, under binders, of which the inner ones are around the integer
 /// alone.
 pub(crate) fn pair(
@@ -143,10 +166,8 @@ pub(crate) fn pair(
     times: &[Times],
 ) -> Result<Res, Memory> {
     let bound = bound(alloc, outer, &[])?;
-    let first = Boxed::new(alloc, int(alloc, inner, times)?)?;
-    let second = Boxed::new(alloc, nothing(alloc)?)?;
     Ok(Res {
         bound,
-        shape: Shape::Pair(first, second),
+        shape: int_and_nothing(alloc, inner, times)?,
     })
 }

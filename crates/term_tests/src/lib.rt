@@ -1,0 +1,15 @@
+//! Tables of small cases of the rules about terms and what they are put into.
+#![tactic(auto)]
+
+#[cfg(test)]
+mod certificates;
+#[cfg(test)]
+mod normal_forms;
+#[cfg(test)]
+mod resources;
+#[cfg(test)]
+mod rows;
+#[cfg(test)]
+mod substitutions;
+#[cfg(test)]
+mod trees;
