@@ -22,7 +22,7 @@
 -- (e) one program: all views, loads and parcels carry the same, with the same limit.
 -- (f) one who wakes: a task is WAITING exactly where it stands in one PARKED word, or in one view as being parked or to be woken.
 -- (g) two finishers: each retires a cell once, the cell is free where both have, and it is free to one hand.
-use Rattle.std.specs.Prelude.{◌≡◌, ◌≢◌, ◌⊎◌, ℕ, ◌+◌, ◌-◌, ◌*◌, ◌%◌, ◌^◌, ◌<◌, ◌≤◌, Bool, true, List, [], ◌∷◌, ◌++◌, length, get_or, None, Some}
+use Rattle.std.specs.Prelude.{◌≡◌, ◌≢◌, ◌⊎◌, ℕ, ◌+◌, ◌-◌, ◌*◌, ◌^◌, ◌<◌, ◌≤◌, Bool, true, List, [], ◌∷◌, ◌++◌, length, get_or, None, Some}
 use Rattle.std.specs.declared.option.Option as std_option
 use mathlib.Core.Option.{Option, some, none}
 use lib.ListN.{get_elem?}
@@ -31,7 +31,7 @@ use Rattle.cell_rules.specs.declared.item.Item.{Item}
 use Rattle.cell_rules.specs.declared.item.Item.TheVariants.{Load, Parcel}
 use Rattle.cell_rules.specs.declared.view.View.{View}
 use Rattle.cell_rules.specs.Lists.{total, below, one, count, In}
-use Rattle.cell_rules.specs.Words.{cell, task, claim, chan, retire, load_at, parcel_at, UNMADE, READY, RUNNING, WAITING, FREE, EMPTY, FULL, DONE, PARKED, IsClaimed, IsParked}
+use Rattle.cell_rules.specs.Words.{cell, task, claim, chan, retire, load_at, parcel_at, UNMADE, RUNNING, WAITING, FREE, EMPTY, FULL, DONE, PARKED, IsClaimed, IsParked}
 use Rattle.cell_rules.specs.Marks.{mark, Drawn, Opening, InHand, Lifted, Reopening, Claimed, Picking, Parking, Waking, Right, Free, ClaimCleared, ChanCleared, Kept}
 use Rattle.cell_rules.specs.Table.{Event, run, Legal, own}
 

@@ -1,5 +1,5 @@
 -- The table of the fourteen kinds of step, and histories made of them.
-use Rattle.std.specs.Prelude.{◌≡◌, ◌≢◌, ◌⊎◌, ℕ, ◌+◌, ◌*◌, List, [], ◌∷◌, get_or, set, ◌==◌, if◌then◌else◌}
+use Rattle.std.specs.Prelude.{◌≡◌, ◌⊎◌, ℕ, ◌+◌, List, [], ◌∷◌, get_or, set, ◌==◌, if◌then◌else◌}
 use Rattle.cell_rules.specs.Words.{cell, task_at, claim_at, chan_at, retire_at, UNMADE, READY, RUNNING, WAITING, ENDED, HALTED, FREE, BY, EMPTY, FULL, DONE, PARKED, words_at_start}
 
 -- a step: its seat, its word, what was found there and what is there now

@@ -24,6 +24,7 @@ pub fn open_two(
     requires { (0 < n) × (n ≤ 1048576) }
     ensures idle { IfSome result (λ t. IsIdle t.0 t.1 × IsIdle t.0 t.2) }
     ensures may { IfSome result (λ t. t.1.seat.me.0.spent < t.1.seat.me.0.parts) }
+    ensures both { IfSome result (λ t. t.2.seat.me.0.spent < t.2.seat.me.0.parts) }
     ensures two { IfSome result (λ t. t.0.table.shared.key.hands ≡ 2) }
 {
     let Ok(Opened { cells, mut hands }) = Cells::<Job, Note, u64>::new(alloc, 7, 50, n, 2) else {

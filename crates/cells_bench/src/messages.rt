@@ -1,5 +1,5 @@
 //! Messages: a parent forks a child in a free cell and sends to it; the child receives, ends, and frees its cell.
-ghost use Rattle.std.specs.Prelude.{◌≡◌, ℕ, ◌^◌, ◌≤◌, ◌<◌};
+ghost use Rattle.std.specs.Prelude.{◌≡◌, ℕ, ◌^◌, ◌≤◌, ◌<◌, IfSome};
 ghost use Rattle.cell_turns.specs.Crew.{IsIdle, HasFree, HasSpare, HoldsRight};
 
 use crate::watch::{Laps, Watch, add};
@@ -38,9 +38,8 @@ const SECOND: Pair = Pair {
 
 /// So many messages of one hand.
 pub fn on_one<C: Clock>(alloc: Global, clock: &C, count: u64) -> Option<Laps> {
-    let (cells, mut first, _second) = open_two(alloc, CELLS)?;
-    let mut laps = Laps::default();
-    begin_all(clock, &cells, &mut first, &mut laps)?;
+    let (cells, first, _second) = open_two(alloc, CELLS)?;
+    let (mut first, laps) = begun(clock, &cells, first, CELLS)?;
     seed(&cells, &mut first, FIRST.child);
     let free = free_cell(&cells, &mut first, FIRST.child)?;
     Some(laps.and(messages(clock, &cells, first, free, FIRST.parent, count)))
@@ -52,14 +51,25 @@ pub fn on_two<R: Threads + Sync + AllocGlobal, C: Clock + Sync>(
     clock: &C,
     count: u64,
 ) -> Option<Laps> {
-    let (cells, mut first, mut second) = open_two(rt.alloc(), CELLS)?;
-    let mut laps = Laps::default();
-    begin_all(clock, &cells, &mut first, &mut laps)?;
-    seed(&cells, &mut first, FIRST.child);
-    seed(&cells, &mut first, SECOND.child);
-    let mine = free_cell(&cells, &mut first, FIRST.child)?;
-    let theirs = free_cell(&cells, &mut second, SECOND.child)?;
+    let (cells, first, second) = open_two(rt.alloc(), CELLS)?;
     let cells = &cells;
+    let (mine, theirs) = join(
+        rt,
+        || -> Option<(Mine, Laps)>
+            requires { IsIdle cells.now first × (first.seat.me.0.spent < first.seat.me.0.parts) }
+            ensures { IfSome result (λ r. IsIdle cells.entry.now r.0) }
+        { begun(clock, cells, first, CELLS / 2) },
+        || -> Option<(Mine, Laps)>
+            requires { IsIdle cells.now second × (second.seat.me.0.spent < second.seat.me.0.parts) }
+            ensures { IfSome result (λ r. IsIdle cells.entry.now r.0) }
+        { begun(clock, cells, second, CELLS / 2) },
+    );
+    let (mut first, laps) = mine?;
+    let (mut second, more) = theirs?;
+    seed(cells, &mut first, FIRST.child);
+    seed(cells, &mut first, SECOND.child);
+    let mine = free_cell(cells, &mut first, FIRST.child)?;
+    let theirs = free_cell(cells, &mut second, SECOND.child)?;
     let (a, b) = join(
         rt,
         || -> Laps
@@ -69,21 +79,29 @@ pub fn on_two<R: Threads + Sync + AllocGlobal, C: Clock + Sync>(
             requires { HasFree cells.now second theirs }
         { messages(clock, cells, second, theirs, SECOND.parent, count) },
     );
-    Some(laps.and(a).and(b))
+    Some(laps.and(more).and(a).and(b))
 }
 
-fn begin_all<C: Clock>(clock: &C, cells: &Table, hand: &mut Mine, laps: &mut Laps) -> Option<()>
-    requires idle { IsIdle cells.now hand.old }
-    requires may { hand.old.seat.me.0.spent < hand.old.seat.me.0.parts }
-    ensures { IsIdle cells.now hand.new }
+// Draws so many numbers and begins them.
+fn begun<C: Clock>(
+    clock: &C,
+    cells: &Table,
+    mut hand: Mine,
+    count: u64,
+) -> Option<(Mine, Laps)>
+    requires idle { IsIdle cells.now hand }
+    requires may { hand.seat.me.0.spent < hand.seat.me.0.parts }
+    ensures { IfSome result (λ r. IsIdle cells.now r.0) }
 {
+    let mut laps = Laps::default();
     let mut watch = Watch::start(clock);
-    for _ in 0..CELLS {
-        start(cells, hand)?;
+    for _ in 0..count {
+        add(&mut laps.clock, watch.lap());
+        start(cells, &mut hand)?;
         add(&mut laps.begin, watch.lap());
         add(&mut laps.begun, 1);
     }
-    Some(())
+    Some((hand, laps))
 }
 
 // The cell of a number on which its own task sent.

@@ -1,10 +1,10 @@
 -- What a call asks of a load or a parcel rests on what the view knows alone.
-use Rattle.std.proofs.Common.{◌≡◌, ◌⊎◌, ℕ, List, [], ◌∷◌, sym, subst, ap, ◌∙◌, inl, inr, ⊎_elim, Some}
+use Rattle.std.proofs.Common.{◌≡◌, ℕ, List, ◌∷◌, sym, subst, ap, ◌∙◌, inl, inr, ⊎_elim, Some}
 use Rattle.cell_rules.specs.declared.view.View.{View}
 use Rattle.cell_rules.specs.Lists.{In}
-use Rattle.cell_rules.specs.declared.item.Item.TheVariants.{Load, Parcel}
+use Rattle.cell_rules.specs.declared.item.Item.TheVariants.{Parcel}
 use Rattle.cell_rules.specs.Rule.{Means, Held}
-use Rattle.cell_rules.specs.Asks.{Names, Knows, Tells, IsNew, KnowsParcel}
+use Rattle.cell_rules.specs.Asks.{Knows, IsNew, KnowsParcel}
 
 module _ {L P A : Type 0} (x : Means L P A) (v w : View L A) (names : w.names ≡ v.names) (about : w.about ≡ v.about) where
   pub knows_same : (load : L) → w.sends ≡ v.sends → Knows x v load → Knows x w load

@@ -1,7 +1,7 @@
 -- The views of several hands in one.
-use Rattle.std.proofs.Common.{◌≡◌, ℕ, suc, ◌+◌, ◌<◌, List, [], ◌∷◌, length, sym, refl, ap, ◌∙◌, arith, All, Some, slice_get, remove}
+use Rattle.std.proofs.Common.{◌≡◌, ℕ, suc, ◌+◌, ◌<◌, List, [], ◌∷◌, length, refl, ap, arith, All, Some, slice_get, remove}
 use Rattle.cell_rules.specs.declared.view.View.{View}
-use Rattle.cell_rules.specs.Lists.{total, count}
+use Rattle.cell_rules.specs.Lists.{total}
 use Rattle.cell_rules.specs.Rule.{both}
 use Rattle.cell_rules.specs.Closing.{HasNothing}
 use Rattle.cell_rules.proofs.Totals.{total-append}

@@ -1,8 +1,8 @@
 -- What each call does: the words that it read, what it left there, and the view of its hand before and after.
-use Rattle.std.specs.Prelude.{◌≡◌, ◌≢◌, ◌⊎◌, ℕ, ◌+◌, ◌%◌, ◌^◌, ◌<◌, ◌≤◌, List, [], ◌∷◌}
+use Rattle.std.specs.Prelude.{◌≡◌, ◌≢◌, ◌⊎◌, ℕ, ◌+◌, ◌%◌, ◌^◌, ◌<◌, ◌≤◌, List, []}
 use Rattle.atomic_table.specs.Table.{Me}
 use Rattle.cell_rules.specs.declared.view.View.{View}
-use Rattle.cell_rules.specs.Lists.{count, In}
+use Rattle.cell_rules.specs.Lists.{count}
 use Rattle.cell_rules.specs.Words.{cell, task_at, claim_at, chan_at, retire_at, READY, RUNNING, WAITING, FREE, BY, EMPTY, FULL, DONE, PARKED}
 use Rattle.cell_rules.specs.Rule.{Means, Held}
 use Rattle.cell_rules.specs.Plays.{CanTake, CanCollect, noted, drawing, spending, opened, beginning, taking, leaving, lifting, settling, raising}

@@ -1,5 +1,5 @@
 -- The hands of a table, at its start and at its end.
-use Rattle.std.specs.Prelude.{◌≡◌, ℕ, ◌<◌, List, [], ◌∷◌}
+use Rattle.std.specs.Prelude.{◌≡◌, ℕ, List, [], ◌∷◌}
 use Rattle.cell_rules.specs.declared.view.View.{View}
 use Rattle.cell_rules.specs.Rule.{fresh, blank, both}
 use Rattle.cell_rules.specs.Closing.{HasNothing}

@@ -1,5 +1,5 @@
 -- A hand at a table of cells, and the slot that its seat took last.
-use Rattle.std.specs.Prelude.{◌≡◌, ℕ, ◌<◌, ◌≤◌, ◌^◌, List, [], ◌∷◌}
+use Rattle.std.specs.Prelude.{◌≡◌, ℕ, ◌<◌, ◌≤◌, ◌^◌, []}
 use Rattle.atomic_table.specs.Table.{Me}
 use Rattle.cell_rules.specs.declared.view.View.{View}
 use Rattle.cell_rules.specs.Lists.{count, In}

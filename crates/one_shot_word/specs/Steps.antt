@@ -1,5 +1,5 @@
 -- What each step makes of the seat that makes it: of n cells, the number m, the word r that was found, the seat before and after.
-use Rattle.std.specs.Prelude.{◌≡◌, ℕ, ◌+◌, List, [], ◌∷◌, Some, None}
+use Rattle.std.specs.Prelude.{◌≡◌, ℕ, ◌+◌, ◌∷◌, Some, None}
 use Rattle.atomic_table.specs.Table.{rest}
 use Rattle.cell_rules.specs.declared.item.Item.TheVariants.{Load, Parcel}
 use Rattle.cell_rules.specs.Words.{cell, task_at, claim_at, chan_at, retire_at, load_at, parcel_at, READY, RUNNING, WAITING}

@@ -1,4 +1,4 @@
-use Rattle.std.proofs.Common.{◌≡◌, ℕ, ◌-◌, ◌≤◌}
+use Rattle.std.proofs.Common.{◌≡◌, ◌-◌, ◌≤◌}
 use Rattle.cell_rules.specs.Words.{words_at_start}
 use Rattle.one_shot_word.proofs.ends.words_of.Given as goal
 

@@ -1,4 +1,4 @@
-use Rattle.std.proofs.Common.{rules, ℕ, ◌≡◌, sym, subst, ap, ◌∙◌, ◌%◌, ◌<◌, arith}
+use Rattle.std.proofs.Common.{ℕ, ◌≡◌, sym, subst, ap, ◌∙◌, ◌%◌, ◌<◌}
 use Rattle.std.proofs.lemmas.Nat.{mod_below}
 use Rattle.cell_rules.specs.Words.{cell}
 use Rattle.one_shot_word.proofs.Places.{cell_is}

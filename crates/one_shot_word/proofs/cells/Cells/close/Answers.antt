@@ -1,4 +1,4 @@
-use Rattle.std.proofs.Common.{rules, ◌≡◌, ℕ, ◌<◌, ◌∙◌, sym, subst, ap}
+use Rattle.std.proofs.Common.{ℕ, ◌<◌, ◌∙◌, sym, subst, ap}
 use Rattle.cell_rules.specs.Closing.{HasNothing, AtRest}
 use Rattle.cell_rules.specs.Plays.{Sat}
 use Rattle.one_shot_word.specs.Meaning.{means}

@@ -1,4 +1,4 @@
-use Rattle.std.proofs.Common.{◌≡◌, ℕ, ◌+◌, ◌<◌, [], ◌∷◌, length, All, vec_len, vec_capacity}
+use Rattle.std.proofs.Common.{◌≡◌, ◌+◌, ◌<◌, [], ◌∷◌, length, All, vec_len, vec_capacity}
 use Rattle.cell_rules.specs.Rule.{fresh}
 use Rattle.one_shot_word.specs.Hands.{IsFirst}
 use Rattle.one_shot_word.proofs.cells.Cells.deal_all.Given as goal

@@ -1,5 +1,4 @@
-use Rattle.std.proofs.Common.{rules, ℕ, ◌≡◌, ◌⊎◌, sym, subst, refl, ap, ◌∙◌, inl, inr, ◌+◌, ◌*◌, ◌<◌, ◌≤◌, length, List, [], ◌∷◌, arith}
-use Rattle.cell_rules.specs.Words.{cell, task_at, claim_at, chan_at, retire_at, load_at, parcel_at, READY, RUNNING, WAITING, ENDED, HALTED, FREE, BY, EMPTY, FULL, DONE, PARKED}
+use Rattle.std.proofs.Common.{ℕ, arith}
 use Rattle.one_shot_word.specs.Meaning.{means}
 use Rattle.cell_rules.proofs.Retires.{ends_kept}
 use Rattle.one_shot_word.proofs.cells.Cells.end_step.Goals as goal

@@ -1,10 +1,10 @@
 use Rattle.std.proofs.Common.{rules, arith, ◌≡◌, ◌+◌, ◌*◌, ◌<◌, ◌≤◌, ◌∙◌, ap, false, sym, subst, get_or, get_or-set_other, get_or-set_same, length, ℕ, List, [], ◌∷◌, ◌++◌}
-use Rattle.std.specs.Mem.Slots.{slots_items, slots_filled, slots_len, slots_counts}
+use Rattle.std.specs.Mem.Slots.{slots_items, slots_filled, slots_counts}
 use Rattle.std.proofs.Math.ListN.{take}
 use mathlib.Core.Logic.{dite}
 use native.Mathlib.Decide.{ℕ_discrete}
 use Rattle.cell_rules.specs.Rule.{Held}
-use Rattle.cell_rules.specs.Closing.{loads_in, parcels_in, AtRest}
+use Rattle.cell_rules.specs.Closing.{loads_in, parcels_in}
 use Rattle.cell_rules.proofs.Closing.{at_rest}
 use Rattle.one_shot_word.specs.Meaning.{means}
 use Rattle.one_shot_word.proofs.Slots.{loads_next, parcels_next}

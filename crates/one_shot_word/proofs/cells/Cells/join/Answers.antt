@@ -1,4 +1,4 @@
-use Rattle.std.proofs.Common.{rules, ℕ, ◌≡◌, ◌+◌, ◌<◌, arith}
+use Rattle.std.proofs.Common.{ℕ, arith}
 use Rattle.one_shot_word.specs.Meaning.{means}
 use Rattle.cell_rules.proofs.Seats.{joins_kept}
 use Rattle.one_shot_word.proofs.cells.Cells.join.Goals as goal

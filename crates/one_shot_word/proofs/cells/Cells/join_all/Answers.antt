@@ -1,4 +1,4 @@
-use Rattle.std.proofs.Common.{◌≡◌, ℕ, suc, ◌<◌, [], ◌∷◌, List, ◌∙◌, sym, subst, ap, arith, All}
+use Rattle.std.proofs.Common.{◌≡◌, ℕ, suc, ◌<◌, ◌∷◌, List, ◌∙◌, sym, subst, ap, arith, All}
 use Rattle.cell_rules.specs.Plays.{Sat}
 use Rattle.one_shot_word.specs.declared.hand.Hand.{Hand}
 use Rattle.one_shot_word.specs.Hands.{IsDone, gathered, together}

@@ -1,4 +1,4 @@
-use Rattle.std.proofs.Common.{◌≡◌, ℕ, ◌<◌, [], length, All}
+use Rattle.std.proofs.Common.{◌≡◌, ◌<◌, [], length, All}
 use Rattle.one_shot_word.specs.Hands.{IsDone, gathered, together}
 use Rattle.one_shot_word.proofs.cells.Cells.join_all.Given as goal
 
