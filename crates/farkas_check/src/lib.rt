@@ -6,6 +6,3 @@ mod check;
 
 pub use cert::{Cert, CertFault, Coefficients, Mention, Mentions, Row, Rows};
 pub use check::holds;
-
-#[cfg(test)]
-mod tests;

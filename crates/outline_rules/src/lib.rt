@@ -7,6 +7,3 @@ mod sums;
 
 pub use forms::normal;
 pub use naming::{IntNames, IntVar, IntVars, TermFault};
-
-#[cfg(test)]
-mod tests;

@@ -4,6 +4,8 @@
 #[cfg(test)]
 mod certificates;
 #[cfg(test)]
+mod held;
+#[cfg(test)]
 mod normal_forms;
 #[cfg(test)]
 mod resources;
@@ -12,4 +14,8 @@ mod rows;
 #[cfg(test)]
 mod substitutions;
 #[cfg(test)]
+mod sums;
+#[cfg(test)]
 mod trees;
+#[cfg(test)]
+mod variables;

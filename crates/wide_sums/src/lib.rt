@@ -4,6 +4,3 @@
 mod wide;
 
 pub use wide::Wide;
-
-#[cfg(test)]
-mod tests;

@@ -1,5 +1,6 @@
-use crate::Wide;
+//! Sums past 128 bits.
 use std::test::Fail;
+use wide_sums::Wide;
 
 #[test]
 fn sums_come_back_from_beyond_128_bits(rt: HostRuntime) -> Result<(), Fail> {

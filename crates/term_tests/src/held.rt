@@ -1,7 +1,8 @@
+//! Certificates, and the rows that they show.
 ghost use Rattle.std.specs.Prelude.{◌<◌, ◌≤◌, ◌^◌, unsigned_abs, length, IfOk};
 ghost use Rattle.farkas_check.specs.Rows.{IsNarrow};
 
-use crate::{Cert, CertFault, Coefficients, Mention, Mentions, Row, Rows, holds};
+use farkas_check::{Cert, CertFault, Coefficients, Mention, Mentions, Row, Rows, holds};
 use std::alloc::{AllocError, Global};
 use std::test::Fail;
 

@@ -1,7 +1,8 @@
-use crate::{IntNames, IntVar, TermFault, normal};
+//! Terms of program variables, which stand for terms.
 use chan_base::{Memory, Span};
 use chan_syntax::{Ident, Part, Term};
 use farkas_check::Row;
+use outline_rules::{IntNames, IntVar, TermFault, normal};
 use sqlite_items::Items;
 use std::alloc::Global;
 use std::test::Fail;
