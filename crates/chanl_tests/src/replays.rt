@@ -30,6 +30,7 @@ if 0 <= 0 { print 1; ret () } else { print 2; ret () } => 1 / finished
 if 1 <= 0 { print 1; ret () } else { print 2; ret () } => 2 / finished
 let a = -3; if 2*a <= a - 4 { print 1; ret () } else { if a <= -3 { print 2; ret () } else { print 3; ret () } } => 2 / finished
 let a = same(7); print a; ret () => 7 / finished
+let abcdefghijklmnopqrstuv = 1; let abcdefghijklmnopqrstuvw = same(2); let abcdefghijklmnopqrstuvx = 3; print abcdefghijklmnopqrstuv; print 2*abcdefghijklmnopqrstuvw; print abcdefghijklmnopqrstuvx; ret () => 1 / 4 / 3 / finished
 let a = same((1, (2, 3))); let (b, c) = a; let (d, e) = c; print b; print d; print e; ret () => 1 / 2 / 3 / finished
 let a = same(inl 4); match a { inl b { print b; ret () } inr b { print -b; ret () } } => 4 / finished
 let a = same(inr 4); match a { inl b { print b; ret () } inr b { print -b; ret () } } => -4 / finished
