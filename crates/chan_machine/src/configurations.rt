@@ -1,14 +1,21 @@
 //! Configurations: tasks, channels and prints.
-ghost use Rattle.std.specs.Prelude.{◌≡◌};
+ghost use Rattle.std.specs.Prelude.{◌≡◌, IfOk, OnOk};
 ghost use Rattle.std.specs.Option.{option_map};
 ghost use Rattle.std.specs.Ordering.{nat_cmp};
 ghost use Rattle.std.specs.Cmp.Lexicographic.{slice_cmp};
 ghost use Rattle.std.specs.BTreeMap.{get as looked_up};
-ghost use Rattle.chan_machine.specs.Reading.{stored_in};
+ghost use Rattle.std.specs.FinMap.{keys, insert};
+ghost use Rattle.core_programs.specs.declared.nodes.Parts.{Parts};
+ghost use Rattle.machine_values.specs.Reading.{value_as};
+ghost use Rattle.machine_tasks.specs.Fits.{FramesFit};
+ghost use Rattle.machine_tasks.specs.Reading.{task_of};
+ghost use Rattle.chan_machine.specs.Reading.{stored_in, config_of, channels_named, config_with, map_of, tasks_named};
+ghost use Rattle.chan_machine.specs.Fits.{AllFit, Fits, TasksFit};
 
-use chan_base::Name;
-use machine_tasks::{Frames, Task, Value};
+use chan_base::{Memory, Name, Names};
+use machine_tasks::{Frames, Task, Tasks, Value};
 use sqlite_items::Items;
+use std::alloc::Global;
 use std::collections::BTreeMap;
 
 pub type Stores = Items<Store>;
@@ -63,5 +70,87 @@ impl Config {
         ensures { result.now ≡ self.now.prints }
     {
         &self.prints
+    }
+}
+
+impl Config {
+    /// The names of the tasks in order, ended ones too.
+    pub fn tasks(&self, alloc: Global) -> Result<Names, Memory>
+        ensures { IfOk result (λ names. (program : Parts) → names ≡ keys (config_of program self.now).tasks) }
+    {
+        let mut names = Items::new(alloc);
+        'tasks: for (name, _) in self.tasks.iter() {
+            names.push(name.copy()?)?;
+        }
+        Ok(names)
+    }
+
+    /// The names of the channels in order.
+    pub fn channels(&self, alloc: Global) -> Result<Names, Memory>
+        ensures { IfOk result (λ names. (program : Parts) → names ≡ keys (config_of program self.now).channels) }
+    {
+        let mut names = Items::new(alloc);
+        'channels: for (name, _) in self.channels.iter() {
+            names.push(name.copy()?)?;
+        }
+        Ok(names)
+    }
+}
+
+/// Puts the task under its name.
+fn put_task(tasks: &mut BTreeMap<Name, Task>, task: Task) -> Result<(), Memory>
+    ensures tasks { OnOk result ((program : Parts) → map_of (task_of program.nodes) tasks.new ≡ insert (map_of (task_of program.nodes) tasks.old) task.name (task_of program.nodes task)) }
+    ensures fits { OnOk result ((program : Parts) → TasksFit program tasks.old → FramesFit program.nodes task.frames.items → TasksFit program tasks.new) }
+{
+    let name = task.name().copy()?;
+    tasks.insert(name, task)?;
+    Ok(())
+}
+
+/// Puts the channel under its name.
+fn put_channel(channels: &mut BTreeMap<Name, Option<Value>>, store: Store) -> Result<(), Memory>
+    ensures { OnOk result (map_of (option_map value_as) channels.new ≡ insert (map_of (option_map value_as) channels.old) store.name (option_map value_as store.value)) }
+{
+    let Store { name, value } = store;
+    channels.insert(name, value)?;
+    Ok(())
+}
+
+/// The tasks under their names.
+fn gather_tasks(alloc: Global, tasks: Tasks) -> Result<BTreeMap<Name, Task>, Memory>
+    ensures value { IfOk result (λ gathered. (program : Parts) → map_of (task_of program.nodes) gathered ≡ tasks_named program tasks) }
+    ensures fits { IfOk result (λ gathered. (program : Parts) → AllFit program tasks → TasksFit program gathered) }
+{
+    let mut left = tasks;
+    let mut gathered = BTreeMap::new(alloc);
+    'tasks: while let Some(task) = left.pop() {
+        put_task(&mut gathered, task)?;
+    }
+    Ok(gathered)
+}
+
+/// The channels under their names.
+fn gather_channels(alloc: Global, stores: Stores) -> Result<BTreeMap<Name, Option<Value>>, Memory>
+    ensures { IfOk result (λ gathered. map_of (option_map value_as) gathered ≡ channels_named stores) }
+{
+    let mut left = stores;
+    let mut gathered = BTreeMap::new(alloc);
+    'stores: while let Some(store) = left.pop() {
+        put_channel(&mut gathered, store)?;
+    }
+    Ok(gathered)
+}
+
+impl Config {
+    /// The configuration of these tasks, channels and prints: of two with one name the first.
+    pub fn of(alloc: Global, tasks: Tasks, channels: Stores, prints: Puts) -> Result<Config, Memory>
+        ensures value { IfOk result (λ config. (program : Parts) → config_of program config ≡ config_with program tasks channels prints) }
+        ensures fits { IfOk result (λ config. (program : Parts) → AllFit program tasks → Fits program config) }
+    {
+        Ok(Config {
+            tasks: gather_tasks(alloc, tasks)?,
+            channels: gather_channels(alloc, channels)?,
+            prints,
+        })
     }
 }

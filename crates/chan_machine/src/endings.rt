@@ -10,8 +10,7 @@ ghost use Rattle.chan_machine.specs.Reading.{config_of, ending_as, step_of};
 
 use crate::configurations::Config;
 use crate::events::{Ending, Stepped};
-use crate::looking::look;
-use crate::moving::can_move;
+use crate::looks::{can_move, look};
 use chan_base::{Memory, Name, Names};
 use core_programs::Program;
 use machine_tasks::Halt;

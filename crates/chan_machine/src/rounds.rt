@@ -9,10 +9,10 @@ ghost use Rattle.chan_machine.specs.Parking.{is_ready};
 ghost use Rattle.chan_machine.specs.Reading.{config_of};
 ghost use Rattle.chan_machine.specs.Turning.{Parked, run_as};
 
+use crate::queue::sift;
 use crate::runs::{Queue, Run};
-use crate::sifting::sift;
-use crate::stepping::start;
-use crate::turning::run_turns;
+use crate::steps::start;
+use crate::turns::run_turns;
 use chan_base::{Memory, Name};
 use core_programs::Program;
 use sqlite_items::Items;

@@ -1,0 +1,176 @@
+//! Sends, receives and forks of a configuration.
+ghost use Rattle.std.specs.Prelude.{◌≡◌, true, false, Some, None, IsSome, IfOk, OnOk, OnErr};
+ghost use Rattle.std.specs.Option.{option_map};
+ghost use Rattle.std.specs.Ordering.{nat_cmp};
+ghost use Rattle.std.specs.Cmp.Lexicographic.{slice_cmp};
+ghost use Rattle.std.specs.BTreeMap.{Updates, get as looked_up};
+ghost use Rattle.core_language.specs.Acts.{channel_in};
+ghost use Rattle.core_language.specs.Names.{Name as NameOf};
+ghost use Rattle.core_language.specs.Steps.{effect};
+ghost use Rattle.machine_values.specs.Cells.{EndTest};
+ghost use Rattle.machine_values.specs.Reading.{value_as};
+ghost use Rattle.machine_tasks.specs.declared.tasks.Task.{Task};
+ghost use Rattle.machine_tasks.specs.Kinds.{kind_of, Fork, Send, Recv};
+ghost use Rattle.machine_tasks.specs.Reading.{act_in};
+ghost use Rattle.machine_tasks.specs.Sharing.{IsFork, IsRecv, IsSend};
+ghost use Rattle.chan_machine.specs.Reading.{config_of, map_of, step_of};
+ghost use Rattle.chan_machine.specs.Ends.{ConfigPasses};
+ghost use Rattle.chan_machine.specs.Fits.{ActsAt, Fits, ForksAt, RoomAt, is_moved};
+
+use crate::configurations::Config;
+use crate::events::{Event, Stepped};
+use crate::steps::{accept, branch, fill, move_on};
+use chan_base::{Memory, Name, Number};
+use core_programs::Program;
+use machine_tasks::{Bind, Offspring, Parcel, Slot, StuckWhy, Task, Value};
+use std::alloc::Global;
+use std::collections::BTreeMap;
+
+/// The step of a task whose act is a send on the channel.
+pub(crate) fn send(
+    alloc: Global,
+    program: &Program,
+    config: &mut Config,
+    name: &Name,
+    channel: Name,
+) -> Result<Stepped, Memory>
+    requires fits { Fits program.now config.old }
+    requires there { IsSome (looked_up (slice_cmp nat_cmp) config.old.tasks name.now) }
+    requires act { ActsAt IsSend program.now config.old.tasks name.now }
+    ensures value { IfOk result (λ s. (t : Task) → looked_up (slice_cmp nat_cmp) config.old.tasks name.now ≡ Some t → Send ≡ kind_of (act_in program.now t) → Some channel ≡ channel_in (act_in program.now t)
+        → effect (config_of program.now config.old) name.now t.forks (act_in program.now t) ≡ step_of (config_of program.now config.new) s) }
+    ensures still { IfOk result (λ s. is_moved s ≡ false → config_of program.now config.new ≡ config_of program.now config.old) }
+    ensures err { OnErr result (config_of program.now config.new ≡ config_of program.now config.old) }
+    ensures fits { Fits program.now config.new }
+    ensures ends { OnOk result ((test : EndTest) → ConfigPasses test config.old → ConfigPasses test config.new) }
+{
+    let Some(task) = config.tasks.get(name) else {
+        unreachable!();
+    };
+    let Parcel { value, next } = task.parcel(alloc, program)?;
+    match config.channels.get(&channel) {
+        None => Ok(Stepped::Stuck(StuckWhy::NoChannel)),
+        Some(Some(_)) => Ok(Stepped::Stuck(StuckWhy::FullChannel)),
+        Some(None) => {
+            fill(&mut config.channels, &channel, value);
+            move_on(program, &mut config.tasks, name, next);
+            Ok(Stepped::Moved(Event::Send(channel)))
+        }
+    }
+}
+
+/// The step of a task, with room for one more variable, whose act is a receive on the channel.
+pub(crate) fn receive(
+    program: &Program,
+    config: &mut Config,
+    name: &Name,
+    channel: Name,
+) -> Result<Stepped, Memory>
+    requires fits { Fits program.now config.old }
+    requires there { IsSome (looked_up (slice_cmp nat_cmp) config.old.tasks name.now) }
+    requires act { ActsAt IsRecv program.now config.old.tasks name.now }
+    requires room { RoomAt config.old.tasks name.now }
+    ensures value { IfOk result (λ s. (t : Task) → looked_up (slice_cmp nat_cmp) config.old.tasks name.now ≡ Some t → Recv ≡ kind_of (act_in program.now t) → Some channel ≡ channel_in (act_in program.now t)
+        → effect (config_of program.now config.old) name.now t.forks (act_in program.now t) ≡ step_of (config_of program.now config.new) s) }
+    ensures still { IfOk result (λ s. is_moved s ≡ false → config_of program.now config.new ≡ config_of program.now config.old) }
+    ensures err { OnErr result (config_of program.now config.new ≡ config_of program.now config.old) }
+    ensures fits { Fits program.now config.new }
+    ensures ends { OnOk result ((test : EndTest) → ConfigPasses test config.old → ConfigPasses test config.new) }
+{
+    let Some(task) = config.tasks.get(name) else {
+        unreachable!();
+    };
+    let Slot {
+        name: variable,
+        next,
+    } = task.slot(program)?;
+    match config.channels.get(&channel) {
+        None => Ok(Stepped::Stuck(StuckWhy::NoChannel)),
+        Some(None) => Ok(Stepped::Waits(channel)),
+        Some(Some(_)) => match config.channels.remove(&channel) {
+            Some(Some(value)) => {
+                let bind = Bind {
+                    name: variable,
+                    value,
+                };
+                accept(program, &mut config.tasks, name, bind, next);
+                Ok(Stepped::Moved(Event::Recv(channel)))
+            }
+            _ => unreachable!(),
+        },
+    }
+}
+
+/// The channel, which is there, as it was before.
+fn restore(channels: &mut BTreeMap<Name, Option<Value>>, name: Name, old: Option<Option<Value>>)
+    requires { IsSome (looked_up (slice_cmp nat_cmp) channels.old name) }
+    ensures { Updates (slice_cmp nat_cmp) channels.old channels.new name old }
+{
+    match old {
+        Some(value) => {
+            let _there = channels.insert(name, value);
+        }
+        None => {
+            let _gone = channels.remove(&name);
+        }
+    }
+}
+
+/// Puts a task and an Empty channel of one name, or neither.
+fn put_child(
+    tasks: &mut BTreeMap<Name, Task>,
+    channels: &mut BTreeMap<Name, Option<Value>>,
+    child: Task,
+    names: (Name, Name, Name),
+) -> Result<(), Memory>
+    requires second { names.1 ≡ names.0 }
+    requires third { names.2 ≡ names.0 }
+    ensures tasks { OnOk result (Updates (slice_cmp nat_cmp) tasks.old tasks.new names.0 (Some child)) }
+    ensures channels { OnOk result (Updates (slice_cmp nat_cmp) channels.old channels.new names.0 (Some None)) }
+    ensures err_tasks { OnErr result (tasks.new.entries ≡ tasks.old.entries) }
+    ensures err_channels { OnErr result (map_of (option_map value_as) channels.new ≡ map_of (option_map value_as) channels.old) }
+{
+    let (key, channel, spare) = names;
+    let old = channels.insert(channel, None)?;
+    match tasks.insert(key, child) {
+        Ok(_) => Ok(()),
+        Err(_) => {
+            restore(channels, spare, old);
+            Err(Memory)
+        }
+    }
+}
+
+/// The step of a task, with room for one more variable, whose act is a fork.
+pub(crate) fn fork(
+    alloc: Global,
+    program: &Program,
+    config: &mut Config,
+    name: &Name,
+) -> Result<Stepped, Memory>
+    requires fits { Fits program.now config.old }
+    requires there { IsSome (looked_up (slice_cmp nat_cmp) config.old.tasks name.now) }
+    requires act { ActsAt IsFork program.now config.old.tasks name.now }
+    requires room { RoomAt config.old.tasks name.now }
+    requires forks { ForksAt config.old.tasks name.now }
+    ensures value { IfOk result (λ s. (t : Task) → looked_up (slice_cmp nat_cmp) config.old.tasks name.now ≡ Some t → Fork ≡ kind_of (act_in program.now t)
+        → effect (config_of program.now config.old) name.now t.forks (act_in program.now t) ≡ step_of (config_of program.now config.new) s) }
+    ensures still { IfOk result (λ s. is_moved s ≡ false → config_of program.now config.new ≡ config_of program.now config.old) }
+    ensures err { OnErr result (config_of program.now config.new ≡ config_of program.now config.old) }
+    ensures fits { Fits program.now config.new }
+    ensures ends { OnOk result ((test : EndTest) → ((c : NameOf) → test c 0 ≡ true) → ConfigPasses test config.old → ConfigPasses test config.new) }
+{
+    let Some(task) = config.tasks.get(name) else {
+        unreachable!();
+    };
+    let made = task.offspring(alloc, program, Number(0))?;
+    let Offspring { child, end, next } = made;
+    let key = child.name().copy()?;
+    let channel = key.copy()?;
+    let spare = key.copy()?;
+    let event = key.copy()?;
+    let names = (key, channel, spare);
+    put_child(&mut config.tasks, &mut config.channels, child, names)?;
+    branch(program, &mut config.tasks, name, end, next);
+    Ok(Stepped::Moved(Event::Fork(event)))
+}
