@@ -1,16 +1,16 @@
 -- What each answer makes of a hand that holds a load.
-use Rattle.std.proofs.Common.{◌≡◌, ◌⊎◌, ℕ, ◌+◌, ◌<◌, List, [], ◌∷◌, sym, refl, ap, subst, ◌∙◌, inl, inr, ⊎_elim}
+use Rattle.std.proofs.Common.{◌≡◌, ℕ, ◌+◌, List, [], ◌∷◌, sym, refl, ap, subst, ◌∙◌, inr, ⊎_elim}
 use Rattle.atomic_table.specs.Table.{Me}
 use Rattle.cell_rules.specs.declared.view.View.{View}
 use Rattle.cell_rules.specs.Words.{cell, task_at, claim_at, chan_at, retire_at, READY, RUNNING, WAITING, FREE, BY, EMPTY, FULL, DONE, PARKED}
 use Rattle.cell_rules.specs.Lists.{In}
 use Rattle.cell_rules.specs.Rule.{Means, Held}
-use Rattle.cell_rules.specs.Plays.{noted, lifting, settling, halting, parking, seeing, reclaiming, collecting, stowing, claiming, sending, sending_to, waked}
+use Rattle.cell_rules.specs.Plays.{noted, lifting, settling, halting, parking, seeing, reclaiming}
 use Rattle.hand_states.specs.Hands.{Store, Idle, Holds, Owes, IsOf}
 use Rattle.cell_rules.proofs.Totals.{In-right}
 use Rattle.hand_states.proofs.Having as having
 use Rattle.hand_states.proofs.Closing as closing
-use Rattle.one_shot_word.specs.Calls.{Sends, Rests, Back, Missed, Turned, Reading, Collects, Receives, Retires, received_by, ended_by}
+use Rattle.one_shot_word.specs.Calls.{Sends, Rests, Back, Reading, Receives, Retires, received_by, ended_by}
 use Rattle.one_shot_word.specs.declared.answers.Got as got
 use Rattle.one_shot_word.specs.declared.answers.Got.TheVariants.{Value, Parked}
 use Rattle.one_shot_word.specs.declared.answers.Got.TheVariants.{Misused as Misuse}
@@ -18,7 +18,7 @@ use Rattle.one_shot_word.specs.declared.answers.Sent as sent
 use Rattle.one_shot_word.specs.declared.answers.Sent.TheVariants.{Left, Wakes, Misused}
 use Rattle.one_shot_word.specs.declared.answers.Retired as retired
 use Rattle.one_shot_word.specs.declared.answers.Retired.TheVariants.{First, Free}
-use Rattle.hand_calls.specs.Answering.{IsReceived, Receiving, Retiring, Ending}
+use Rattle.hand_calls.specs.Answering.{Receiving, Retiring, Ending}
 
 -- no slot is out, and the view stands for as many hands and has the same names
 abbrev pub Stays : {L P A : Type 0} → View L A → Me (Held L P) (View L A) → Type 0

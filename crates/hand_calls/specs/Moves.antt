@@ -1,5 +1,5 @@
 -- What a call makes of its hand, whatever its worker has besides: the hand before, and after.
-use Rattle.std.specs.Prelude.{◌≡◌, ℕ, List, ◌∷◌}
+use Rattle.std.specs.Prelude.{◌≡◌, ℕ, ◌∷◌}
 use Rattle.cell_rules.specs.Rule.{Means}
 use Rattle.hand_states.specs.Hands.{Store, Idle, Holds}
 use Rattle.one_shot_word.specs.Seats.{size, told}

@@ -6,6 +6,7 @@ ghost use Rattle.cell_rules.specs.Lists.{In};
 ghost use Rattle.cell_rules.specs.Asks.{IsNew, KnowsParcel, Names};
 ghost use Rattle.one_shot_word.specs.Meaning.{means};
 ghost use Rattle.one_shot_word.specs.Seats.{size, IsAt};
+ghost use Rattle.one_shot_word.specs.Calls as calls;
 ghost use Rattle.hand_calls.specs.Moves.{HasLoad, HasRight, HasFree, StaysIdle, StaysHolding, TakesLoad, GoesHome};
 ghost use Rattle.hand_calls.specs.Moves.{Receives, Retires, Ends, Reopens};
 
@@ -26,6 +27,8 @@ pub fn take<A, L: Load<A>, P: Parcel<A>>(
     ensures at { IsAt cells.now hand.new }
     ensures parts { hand.new.seat.me.0.parts ≡ hand.old.seat.me.0.parts }
     ensures ok { IfOk result (λ load. TakesLoad (means L.meaning P.meaning) cells.now number.0 load hand.old hand.new) }
+    ensures taken { IfOk result (λ load. calls.Takes (means L.meaning P.meaning) (size cells.now) number.0 load hand.old.seat.me.0 hand.new.seat.me) }
+    ensures missed { IfErr result (λ state. calls.NotReady (size cells.now) number.0 state hand.old.seat.me.0 hand.new.seat.me) }
     ensures more { (e : ℕ × List ℕ) → In e hand.old.seat.me.0.names → In e hand.new.seat.me.0.names }
     ensures err { IfErr result (λ _. StaysIdle (means L.meaning P.meaning) cells.now hand.old hand.new) }
 {
@@ -47,6 +50,7 @@ pub fn home<A, L: Load<A>, P: Parcel<A>>(
     requires holds { HasLoad (means L.meaning P.meaning) cells.now load hand.old }
     ensures at { IsAt cells.now hand.new }
     ensures parts { hand.new.seat.me.0.parts ≡ hand.old.seat.me.0.parts }
+    ensures stored { calls.GoesHome (size cells.now) place (L.meaning.number load) hand.old.seat.me.0 hand.new.seat.me }
     ensures home { GoesHome (means L.meaning P.meaning) cells.now load hand.old hand.new }
 {
     cells.home(hand, load, place);
@@ -67,6 +71,7 @@ pub fn send<A, L: Load<A>, P: Parcel<A>>(
     requires holds { HasLoad (means L.meaning P.meaning) cells.now by.now hand.old }
     ensures at { IsAt cells.now hand.new }
     ensures parts { hand.new.seat.me.0.parts ≡ hand.old.seat.me.0.parts }
+    ensures sends { calls.Sends (size cells.now) number.0 (L.meaning.number by.now) hand.old.seat.me.0 hand.new.seat.me parcel result }
     ensures holds { StaysHolding (means L.meaning P.meaning) cells.now by.now hand.old hand.new }
     ensures names { hand.new.seat.me.0.names ≡ hand.old.seat.me.0.names }
 {
@@ -87,6 +92,7 @@ pub fn recv<A, L: Load<A>, P: Parcel<A>>(
     ensures at { IsAt cells.now hand.new }
     ensures parts { hand.new.seat.me.0.parts ≡ hand.old.seat.me.0.parts }
     ensures more { (e : ℕ × List ℕ) → In e hand.old.seat.me.0.names → In e hand.new.seat.me.0.names }
+    ensures reads { calls.Receives (means L.meaning P.meaning) (size cells.now) number.0 hand.old.seat.me.0 hand.new.seat.me load result }
     ensures receives { Receives (means L.meaning P.meaning) cells.now load number.0 hand.old hand.new result }
 {
     cells.recv(hand, number, load)
@@ -104,6 +110,7 @@ pub fn retire_received<'a, A, L: Load<A>, P: Parcel<A>>(
     requires holds { HasRight (means L.meaning P.meaning) cells.now load.now number.0 hand.old }
     ensures at { IsAt cells.now hand.new }
     ensures parts { hand.new.seat.me.0.parts ≡ hand.old.seat.me.0.parts }
+    ensures fetched { calls.RetiresReceived (size cells.now) number.0 hand.old.seat.me.0 hand.new.seat.me result }
     ensures retires { Retires (means L.meaning P.meaning) cells.now load.now number.0 hand.old hand.new result }
     ensures names { hand.new.seat.me.0.names ≡ hand.old.seat.me.0.names }
 {
@@ -123,6 +130,7 @@ pub fn retire_ended<A, L: Load<A>, P: Parcel<A>>(
     requires holds { HasLoad (means L.meaning P.meaning) cells.now load.now hand.old }
     ensures at { IsAt cells.now hand.new }
     ensures parts { hand.new.seat.me.0.parts ≡ hand.old.seat.me.0.parts }
+    ensures fetched { calls.RetiresEnded (size cells.now) (L.meaning.number load.now) load.now hand.old.seat.me.0 hand.new.seat.me result }
     ensures ends { Ends (means L.meaning P.meaning) cells.now load.now hand.old hand.new result }
 {
     cell_pool::retire(cells, hand, load.number(), Some(load))
@@ -144,6 +152,7 @@ pub fn reopen<A, L: Load<A>, P: Parcel<A>>(
     ensures parts { hand.new.seat.me.0.parts ≡ hand.old.seat.me.0.parts }
     ensures number { result ≡ cell.next }
     ensures names { In (cell.next.0, L.meaning.title load) hand.new.seat.me.0.names }
+    ensures view { calls.Reopens (size cells.now) cell.number.0 (L.meaning.title load) hand.old.seat.me.0 hand.new.seat.me }
     ensures reopens { Reopens (means L.meaning P.meaning) cells.now parent.now cell.number.0 hand.old hand.new }
 {
     cell_pool::reopen(cells, hand, cell, load)

@@ -1,19 +1,18 @@
 -- Parking, retiring, giving cells again, joining and closing, by what they make of a hand.
-use Rattle.std.proofs.Common.{◌≡◌, ◌≢◌, ◌⊎◌, ℕ, ◌+◌, ◌*◌, ◌<◌, ◌≤◌, List, [], ◌∷◌, ◌++◌, sym, refl, ap, subst, ◌∙◌, inl, inr, ⊎_elim, arith}
+use Rattle.std.proofs.Common.{◌≡◌, ℕ, ◌+◌, ◌<◌, ◌≤◌, [], ◌∷◌, ◌++◌, sym, refl, ap, subst, ◌∙◌, inl, inr, ⊎_elim, arith}
 use mathlib.Core.Logic.{dite}
 use native.Mathlib.Decide.{ℕ_discrete}
 use Rattle.cell_rules.specs.declared.view.View.{View}
 use Rattle.cell_rules.specs.Lists.{count, without, one, In, besides}
-use Rattle.cell_rules.specs.Marks.{mark, Drawn, Opening, InHand, Lifted, Reopening, Claimed, Picking, Parking, Waking, Right, Free, ClaimCleared, ChanCleared, Kept}
+use Rattle.cell_rules.specs.Marks.{mark, InHand, Right, Free, Kept}
 use Rattle.cell_rules.specs.Rule.{Means}
-use Rattle.cell_rules.specs.Asks.{Knows, Tells, Names}
-use Rattle.cell_rules.specs.Closing.{AtRest, Among}
-use Rattle.cell_rules.specs.Plays.{receipts_of, noted, seeing}
+use Rattle.cell_rules.specs.Closing.{Among}
+use Rattle.cell_rules.specs.Plays.{receipts_of, noted}
 use Rattle.cell_rules.proofs.Totals.{In-append, In-left, In-right, besides-In, one_same, one_other, count-without, total-append}
 use Rattle.cell_rules.proofs.Fetches.{of_receipts}
-use Rattle.hand_states.proofs.Marks.{apart, came_and_went, parked, come_back, reopened, begun}
+use Rattle.hand_states.proofs.Marks.{apart, parked, come_back, reopened, begun}
 use Rattle.hand_states.proofs.Having.{has_still, there}
-use Rattle.hand_states.specs.Hands.{Store, Has, HasInHand, ReceivedBy, Idle, Holds, Owes, IsOf, joined, AreAll}
+use Rattle.hand_states.specs.Hands.{Store, Has}
 use Rattle.hand_states.specs.Laws.{ReceivesIn, ParksIn, ComesBackIn, SeesIn, RetiresIn, ReopensIn, StartsIn, JoinsIn, ClosesIn, NotesIn}
 
 module _ {L P A : Type 0} (x : Means L P A) (about : A) (s : Store L) where

@@ -1,17 +1,17 @@
 -- What each call makes of a hand.
-use Rattle.std.proofs.Common.{◌≡◌, ◌≢◌, ◌⊎◌, ℕ, ◌+◌, ◌*◌, ◌<◌, ◌≤◌, List, [], ◌∷◌, ◌++◌, sym, refl, ap, subst, ◌∙◌, inl, inr, ⊎_elim, arith}
+use Rattle.std.proofs.Common.{◌≡◌, ◌⊎◌, ℕ, ◌<◌, ◌≤◌, List, [], ◌∷◌, sym, refl, ap, subst, ◌∙◌, inl, inr, ⊎_elim, arith}
 use mathlib.Core.Logic.{dite}
 use native.Mathlib.Decide.{ℕ_discrete}
 use Rattle.cell_rules.specs.declared.view.View.{View}
-use Rattle.cell_rules.specs.Lists.{count, without, one, In, besides}
-use Rattle.cell_rules.specs.Marks.{mark, Drawn, Opening, InHand, Lifted, Claimed, Picking, Waking, Right, Free, Kept}
+use Rattle.cell_rules.specs.Lists.{count, without, one, In}
+use Rattle.cell_rules.specs.Marks.{mark, InHand, Claimed, Right, Free, Kept}
 use Rattle.cell_rules.specs.Rule.{Means}
-use Rattle.cell_rules.specs.Asks.{Knows, Tells, Names}
+use Rattle.cell_rules.specs.Asks.{Knows}
 use Rattle.cell_rules.specs.Plays.{receipts_of}
 use Rattle.cell_rules.proofs.Totals.{In-append, In-left, In-right, besides-In, one_same, one_other}
 use Rattle.cell_rules.proofs.Fetches.{of_receipts}
 use Rattle.hand_states.proofs.Marks.{apart, came_and_went, taken, gone_home, sent_to, stowed, begun, ended}
-use Rattle.hand_states.specs.Hands.{Store, Has, HasInHand, ReceivedBy, Idle, Holds, Owes, IsOf}
+use Rattle.hand_states.specs.Hands.{Store, Has, HasInHand, Holds, IsOf}
 use Rattle.hand_states.specs.Laws.{TakesIn, GoesHomeIn, ContinuesIn, SendsIn, SendsToIn, CollectsIn, KeepsIn, BeginsIn}
 
 module _ {L P A : Type 0} (x : Means L P A) (about : A) (s : Store L) where

@@ -1,7 +1,7 @@
 -- How often a mark stands in a view after marks came and went.
-use Rattle.std.proofs.Common.{◌≡◌, ◌≢◌, ◌⊎◌, ℕ, ◌+◌, ◌*◌, ◌<◌, ◌≤◌, List, [], ◌∷◌, sym, refl, ap, ◌∙◌, inl, inr, ⊎_elim, arith}
-use Rattle.cell_rules.specs.Lists.{count, without, one, In}
-use Rattle.cell_rules.specs.Marks.{mark, Drawn, Opening, InHand, Lifted, Reopening, Claimed, Picking, Parking, Waking, Right, Free, ClaimCleared, ChanCleared, Kept}
+use Rattle.std.proofs.Common.{◌≡◌, ◌≢◌, ℕ, ◌+◌, ◌*◌, ◌<◌, List, ◌∷◌, sym, inr, arith}
+use Rattle.cell_rules.specs.Lists.{count, without, one}
+use Rattle.cell_rules.specs.Marks.{Drawn, Opening, InHand, Lifted, Reopening, Claimed, Picking, Parking, Waking, Right, Free, ClaimCleared, ChanCleared, Kept}
 use Rattle.cell_rules.proofs.Totals.{count-without, more_here, one_other, one_same, off}
 
 -- two marks are apart where their kinds are

@@ -1,10 +1,10 @@
 -- What a hand has between two calls of its worker.
-use Rattle.std.specs.Prelude.{◌≡◌, ◌≢◌, ◌⊎◌, ℕ, ◌<◌, ◌≤◌, List, [], ◌∷◌, ◌++◌}
+use Rattle.std.specs.Prelude.{◌≡◌, ◌⊎◌, ℕ, ◌<◌, ◌≤◌, List, [], ◌∷◌, ◌++◌}
 use Rattle.cell_rules.specs.declared.view.View.{View}
 use Rattle.cell_rules.specs.Lists.{count, In}
 use Rattle.cell_rules.specs.Marks.{mark, InHand, Right, Free, Kept}
 use Rattle.cell_rules.specs.Rule.{Means}
-use Rattle.cell_rules.specs.Asks.{Knows, Tells, Names}
+use Rattle.cell_rules.specs.Asks.{Knows, Tells}
 
 -- what the worker has beside its hand: the numbers that it made, with their names, the loads that it keeps, the numbers of its free cells and of its rights to retire
 pub record Store (L : Type 0) : Type 0 where

@@ -1,10 +1,10 @@
 -- What each call makes of a hand.
-use Rattle.std.specs.Prelude.{◌≡◌, ◌≢◌, ◌⊎◌, ℕ, ◌+◌, ◌<◌, true, List, [], ◌∷◌, ◌++◌}
+use Rattle.std.specs.Prelude.{◌≡◌, ◌⊎◌, ℕ, ◌+◌, List, ◌∷◌, ◌++◌}
 use Rattle.cell_rules.specs.declared.view.View.{View}
 use Rattle.cell_rules.specs.Lists.{count, In}
-use Rattle.cell_rules.specs.Marks.{InHand, Kept}
+use Rattle.cell_rules.specs.Marks.{Kept}
 use Rattle.cell_rules.specs.Rule.{Means}
-use Rattle.cell_rules.specs.Asks.{Knows, Names}
+use Rattle.cell_rules.specs.Asks.{Knows}
 use Rattle.cell_rules.specs.Plays.{noted, drawing, opened, beginning, lifting, settling, leaving, halting, parking, seeing, claiming, sending, sending_to, waked, collecting, stowing, spending_right, freeing_right, ending, freeing_end, clearing_claim, clearing_chan, raising, reopening, taking, reclaiming}
 use Rattle.cell_rules.specs.Rule.{both}
 use Rattle.cell_rules.specs.Closing.{AtRest, HasNothing}

@@ -1,15 +1,8 @@
-use Rattle.std.proofs.Common.{rules, ℕ, ◌≡◌, ◌+◌, ◌*◌, ◌<◌, sym, subst, refl, ap, ◌∙◌, List, [], ◌∷◌, arith, inl}
+use Rattle.std.proofs.Common.{ℕ, ◌<◌, sym, subst, ◌∙◌}
 use Rattle.cell_rules.specs.declared.view.View.{View}
-use Rattle.cell_rules.specs.Words.{cell, task_at, claim_at, chan_at, retire_at, READY, RUNNING}
-use Rattle.cell_rules.specs.Lists.{count}
-use Rattle.cell_rules.specs.Marks.{InHand, Right, Free}
-use Rattle.cell_rules.specs.Plays.{Sat, noted, settling, taking}
-use Rattle.cell_rules.proofs.Totals.{one_same}
 use Rattle.one_shot_word.specs.Meaning.{means}
-use Rattle.hand_states.specs.Hands.{Store, Idle, Holds}
 use Rattle.hand_states.proofs.Having as having
-use Rattle.hand_states.proofs.Closing as closing
-use Rattle.hand_calls.proofs.Reading.{sends_stay, retired_parts, ended_parts, receives_stay, sending_holds, receiving, retiring, ends}
+use Rattle.hand_calls.proofs.Reading.{receives_stay, receiving}
 use Rattle.hand_calls.proofs.recv.Goals as goal
 
 pub recv-requires-clause-has : goal.recv-requires-clause-has
@@ -41,5 +34,6 @@ returns g c =
       at = (c.recv.ensures.table ∙ c.requires.at.0, stay.0, subst (λ (z : ℕ). 0 < z) (sym stay.1) c.requires.at.2);
       parts = stay.1;
       more = stay.2;
+      reads = c.recv.ensures.receives;
       receives = λ s holds. receiving x about s n c.args.number.0 c.args.load v _ _ holds c.recv.ensures.receives;
     }

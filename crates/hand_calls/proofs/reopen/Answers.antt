@@ -1,16 +1,13 @@
-use Rattle.std.proofs.Common.{rules, ℕ, ◌≡◌, ◌+◌, ◌*◌, ◌<◌, sym, subst, refl, ap, ◌∙◌, List, [], ◌∷◌, arith, inl, inr}
+use Rattle.std.proofs.Common.{ℕ, ◌≡◌, ◌+◌, ◌<◌, sym, subst, refl, ap, ◌∙◌, List, arith, inl, inr}
 use Rattle.cell_rules.specs.declared.view.View.{View}
-use Rattle.cell_rules.specs.Words.{cell, task_at, claim_at, chan_at, retire_at, READY, RUNNING}
-use Rattle.cell_rules.specs.Lists.{count, In}
-use Rattle.cell_rules.specs.Marks.{InHand, Right, Free}
-use Rattle.cell_rules.specs.Plays.{Sat, noted, settling, taking}
+use Rattle.cell_rules.specs.Words.{cell, task_at, claim_at, chan_at}
+use Rattle.cell_rules.specs.Lists.{In}
+use Rattle.cell_rules.specs.Plays.{Sat}
 use Rattle.cell_rules.proofs.Totals.{one_same}
 use Rattle.one_shot_word.specs.Meaning.{means}
-use Rattle.hand_states.specs.Hands.{Store, Idle, Holds}
+use Rattle.hand_states.specs.Hands.{Holds}
 use Rattle.hand_states.proofs.Marks.{apart}
-use Rattle.hand_states.proofs.Having as having
 use Rattle.hand_states.proofs.Closing as closing
-use Rattle.hand_calls.proofs.Reading.{sends_stay, retired_parts, ended_parts, receives_stay, sending_holds, receiving, retiring, ends}
 use Rattle.hand_calls.proofs.reopen.Goals as goal
 
 pub reopen-requires-clause-free : goal.reopen-requires-clause-free
@@ -45,6 +42,7 @@ returns g c =
       parts = ap (λ (z : Sat g.row.L.Denot g.row.P.Denot (g.row.A.Denot × ℕ)). z.0.parts) e;
       number = c.reopen.ensures.number;
       names = subst (λ (z : List (ℕ × List ℕ)). In (c.args.cell.next.0, title) z) (sym (ap (λ (z : Sat g.row.L.Denot g.row.P.Denot (g.row.A.Denot × ℕ)). z.0.names) e)) (inl (λ q. (sym next q, title)));
+      view = t;
       reopens = λ s holds. subst (λ (z : View g.row.L.Denot (g.row.A.Denot × ℕ)). Holds x about s c.args.parent.now z) (sym (ap (λ (z : Sat g.row.L.Denot g.row.P.Denot (g.row.A.Denot × ℕ)). z.0) e))
           (closing.reopens x about s v c.args.parent.now c.args.parent.now n m title (claim_at (cell n m)) (chan_at (cell n m)) (task_at (cell n m)) t.0 t.1 t.2 t.3 _ t.2 _ _ holds record { number = refl; program = refl; received = λ k i. i } (λ e i. inr i) (λ k i. inr i) (λ k i. i) (λ k i. i));
     }

@@ -1,16 +1,12 @@
-use Rattle.std.proofs.Common.{rules, ℕ, ◌≡◌, ◌+◌, ◌*◌, ◌<◌, sym, subst, refl, ap, ◌∙◌, List, [], ◌∷◌, arith, inl}
+use Rattle.std.proofs.Common.{ℕ, ◌<◌, sym, subst, ap, ◌∙◌}
 use Rattle.cell_rules.specs.declared.view.View.{View}
-use Rattle.cell_rules.specs.Words.{cell, task_at, claim_at, chan_at, retire_at, READY, RUNNING}
 use Rattle.cell_rules.specs.Lists.{count}
-use Rattle.cell_rules.specs.Marks.{InHand, Right, Free}
-use Rattle.cell_rules.specs.Plays.{Sat, noted, settling, taking}
-use Rattle.cell_rules.proofs.Totals.{one_same}
+use Rattle.cell_rules.specs.Marks.{InHand}
+use Rattle.cell_rules.specs.Plays.{Sat}
 use Rattle.one_shot_word.specs.Meaning.{means}
 use Rattle.one_shot_word.specs.Calls.{RetiresEnded}
-use Rattle.hand_states.specs.Hands.{Store, Idle, Holds}
 use Rattle.hand_states.proofs.Having as having
-use Rattle.hand_states.proofs.Closing as closing
-use Rattle.hand_calls.proofs.Reading.{sends_stay, retired_parts, ended_parts, receives_stay, sending_holds, receiving, retiring, ends}
+use Rattle.hand_calls.proofs.Reading.{ended_parts, ends}
 use Rattle.hand_calls.proofs.retire_ended.Goals as goal
 
 pub retire-requires-clause-has : goal.retire-requires-clause-has
@@ -44,5 +40,6 @@ returns g c =
     record {
       at = (c.retire.ensures.table ∙ c.requires.at.0, ap (λ (z : Sat g.row.L.Denot g.row.P.Denot (g.row.A.Denot × ℕ)). z.1) e, subst (λ (z : ℕ). 0 < z) (sym (ap (λ (z : Sat g.row.L.Denot g.row.P.Denot (g.row.A.Denot × ℕ)). z.0.parts) e ∙ parts.0)) c.requires.at.2);
       parts = ap (λ (z : Sat g.row.L.Denot g.row.P.Denot (g.row.A.Denot × ℕ)). z.0.parts) e ∙ parts.0;
+      fetched = t;
       ends = λ s holds. ends x about s n c.args.load.now v _ t.0 _ holds t.1 e;
     }

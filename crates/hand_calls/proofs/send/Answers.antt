@@ -1,15 +1,11 @@
-use Rattle.std.proofs.Common.{rules, ℕ, ◌≡◌, ◌+◌, ◌*◌, ◌<◌, ◌≤◌, ◌^◌, sym, subst, refl, ap, ◌∙◌, List, [], ◌∷◌, arith, inl}
+use Rattle.std.proofs.Common.{ℕ, ◌<◌, ◌≤◌, ◌^◌, sym, subst, ◌∙◌}
 use Rattle.cell_rules.specs.declared.view.View.{View}
-use Rattle.cell_rules.specs.Words.{cell, task_at, claim_at, chan_at, retire_at, READY, RUNNING}
 use Rattle.cell_rules.specs.Lists.{count}
-use Rattle.cell_rules.specs.Marks.{InHand, Right, Free}
-use Rattle.cell_rules.specs.Plays.{Sat, noted, settling, taking}
-use Rattle.cell_rules.proofs.Totals.{one_same}
+use Rattle.cell_rules.specs.Marks.{InHand}
 use Rattle.one_shot_word.specs.Meaning.{means}
-use Rattle.hand_states.specs.Hands.{Store, Idle, Holds}
+use Rattle.one_shot_word.specs.Calls.{Sends}
 use Rattle.hand_states.proofs.Having as having
-use Rattle.hand_states.proofs.Closing as closing
-use Rattle.hand_calls.proofs.Reading.{sends_stay, retired_parts, ended_parts, receives_stay, sending_holds, receiving, retiring, ends}
+use Rattle.hand_calls.proofs.Reading.{sends_stay, sending_holds}
 use Rattle.hand_calls.proofs.send.Goals as goal
 
 pub send-requires-clause-by : goal.send-requires-clause-by
@@ -35,9 +31,12 @@ returns g c =
     let n : ℕ = key.cells in
     let v : View g.row.L.Denot (g.row.A.Denot × ℕ) = c.args.hand.now.seat.me.0 in
     let stay = sends_stay n c.args.number.0 _ v _ _ _ c.send.ensures.sends in
+    let t : Sends n c.args.number.0 (x.number c.args.by.now) v c.send.new.hand.seat.me c.args.parcel c.send.result =
+    subst (λ (z : ℕ). Sends n c.args.number.0 z v c.send.new.hand.seat.me c.args.parcel c.send.result) c.number.ensures c.send.ensures.sends in
     record {
       at = (c.send.ensures.table ∙ c.requires.at.0, stay.0, subst (λ (z : ℕ). 0 < z) (sym stay.1) c.requires.at.2);
       parts = stay.1;
+      sends = t;
       holds = λ s holds. sending_holds x about s n c.args.number.0 _ v _ _ _ c.args.by.now holds c.send.ensures.sends;
       names = stay.2;
     }

@@ -1,15 +1,13 @@
-use Rattle.std.proofs.Common.{rules, ℕ, ◌≡◌, ◌+◌, ◌*◌, ◌<◌, sym, subst, refl, ap, ◌∙◌, List, [], ◌∷◌, arith, inl}
+use Rattle.std.proofs.Common.{ℕ, ◌≡◌, sym, subst, ap, ◌∙◌, [], ◌∷◌}
 use Rattle.cell_rules.specs.declared.view.View.{View}
-use Rattle.cell_rules.specs.Words.{cell, task_at, claim_at, chan_at, retire_at, READY, RUNNING}
-use Rattle.cell_rules.specs.Lists.{count, In}
-use Rattle.cell_rules.specs.Marks.{InHand, Right, Free}
+use Rattle.cell_rules.specs.Words.{cell, task_at, READY, RUNNING}
+use Rattle.cell_rules.specs.Lists.{In}
 use Rattle.cell_rules.specs.Plays.{Sat, noted, settling, taking}
-use Rattle.cell_rules.proofs.Totals.{one_same, In-right}
+use Rattle.cell_rules.proofs.Totals.{In-right}
 use Rattle.one_shot_word.specs.Meaning.{means}
-use Rattle.hand_states.specs.Hands.{Store, Idle, Holds}
+use Rattle.hand_states.specs.Hands.{Idle, Holds}
 use Rattle.hand_states.proofs.Having as having
 use Rattle.hand_states.proofs.Closing as closing
-use Rattle.hand_calls.proofs.Reading.{sends_stay, retired_parts, ended_parts, receives_stay, sending_holds, receiving, retiring, ends}
 use Rattle.hand_calls.proofs.take.Goals as goal
 
 pub returns-in-Ok-clause-ok : goal.returns-in-Ok-clause-ok
