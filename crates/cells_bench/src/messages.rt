@@ -83,12 +83,7 @@ pub fn on_two<R: Threads + Sync + AllocGlobal, C: Clock + Sync>(
 }
 
 // Draws so many numbers and begins them.
-fn begun<C: Clock>(
-    clock: &C,
-    cells: &Table,
-    mut hand: Mine,
-    count: u64,
-) -> Option<(Mine, Laps)>
+fn begun<C: Clock>(clock: &C, cells: &Table, mut hand: Mine, count: u64) -> Option<(Mine, Laps)>
     requires idle { IsIdle cells.now hand }
     requires may { hand.seat.me.0.spent < hand.seat.me.0.parts }
     ensures { IfSome result (λ r. IsIdle cells.now r.0) }
