@@ -1,0 +1,5 @@
+pub mod Adding
+pub mod Coefficients
+pub mod Loops
+pub mod Sizes
+pub mod Values

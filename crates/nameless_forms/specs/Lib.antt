@@ -1,0 +1,7 @@
+pub mod Codes
+pub mod Counts
+pub mod Faults
+pub mod Order
+pub mod Places
+pub mod Sizes
+pub mod Standings

@@ -1,0 +1,15 @@
+//! Linear forms over places, in numbers of 64 bits, and the exact sums that they are made of.
+#![tactic(auto)]
+
+mod counts;
+mod faults;
+mod linear;
+mod sums;
+mod terms;
+mod variables;
+
+pub use faults::FormFault;
+pub use linear::Form;
+pub use sums::{FormSum, Standing};
+pub use terms::{Names, form_of_term};
+pub use variables::Var;
