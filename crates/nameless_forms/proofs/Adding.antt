@@ -1,15 +1,15 @@
 -- Adding a multiple, as taking the count of its variable out and putting the sum in.
-use Rattle.std.proofs.Common.{◌≡◌, ℕ, ℤ, pos, ◌+ℤ◌, ◌*ℤ◌, Bool, true, false, true≢false, if◌then◌else◌, List, [], ◌∷◌, Option, None, Some, unwrap_or, refl, sym, ap, ◌∙◌, subst, arith}
+use Rattle.std.proofs.Common.{◌≡◌, ℤ, pos, ◌+ℤ◌, ◌*ℤ◌, Bool, true, false, if◌then◌else◌, List, [], ◌∷◌, None, Some, unwrap_or, refl, sym, ap, ◌∙◌, subst, arith}
 use Rattle.std.specs.Prelude.{cond}
 use Rattle.std.proofs.lemmas.Int.{ints}
 use Rattle.std.proofs.lemmas.Bool.Decides.{nat_tests}
-use Rattle.std.specs.Ordering.{int_eq, nat_cmp, is_eq, match_ordering}
+use Rattle.std.specs.Ordering.{int_eq, is_eq}
 use Rattle.std.specs.List.{AllByRecursion}
 use Rattle.std.specs.BTreeMap.{insert_entry, is_at}
 use Rattle.std.specs.Map.{lookup}
 use Rattle.std.specs.declared.cmp.Ordering.{Ordering}
 use Rattle.std.specs.declared.cmp.Ordering.TheVariants.{Less, Equal, Greater}
-use Rattle.outline_language.specs.LinearForms.{Var, Free, Inside, Multiple, LinearForm, variable_order, by_order, unless_zero, add_multiple}
+use Rattle.outline_language.specs.LinearForms.{Var, Free, Inside, Multiple, variable_order, by_order, unless_zero, add_multiple}
 use Rattle.outline_language.specs.Canonical.{AreCanonical}
 use Rattle.outline_language.proofs.OneForm.{order-trans}
 use Rattle.outline_language.proofs.Sums.{sums_canonical}

@@ -1,11 +1,11 @@
 -- How often a sum counts an integer variable is what its row has there.
-use Rattle.std.proofs.Common.{◌≡◌, ℕ, zero, suc, ◌+◌, ℤ, pos, ◌+ℤ◌, ◌*ℤ◌, Bool, true, false, true≢false, ◌&&◌, Result, List, [], ◌∷◌, map, Some, unwrap_or, refl, sym, ap, ◌∙◌, subst, arith}
+use Rattle.std.proofs.Common.{◌≡◌, ℕ, zero, suc, ◌+◌, ℤ, pos, ◌+ℤ◌, ◌*ℤ◌, true, false, true≢false, ◌&&◌, Result, List, [], ◌∷◌, map, Some, unwrap_or, refl, sym, ap, ◌∙◌, subst, arith}
 use Rattle.std.specs.Prelude.{cond, nat_eq}
 use Rattle.std.proofs.lemmas.Int.{ints}
 use Rattle.std.proofs.lemmas.Bool.Decides.{nat_tests}
 use Rattle.std.proofs.Math.IntN as Z
 use Rattle.std.specs.List.{list_all, range_with_len}
-use Rattle.std.specs.Ordering.{nat_cmp, is_eq}
+use Rattle.std.specs.Ordering.{is_eq}
 use Rattle.std.specs.BTreeMap.{is_at}
 use Rattle.std.specs.Map.{lookup}
 use Rattle.std.specs.Cmp.{unsigned_ties}
@@ -18,7 +18,7 @@ use Rattle.outline_language.specs.Contexts.{Why, TooLarge, provided, row_formed}
 use Rattle.linear_forms.specs.Normal.{fits}
 use Rattle.farkas_check.specs.declared.cert.Row.{Row}
 use Rattle.nameless_forms.specs.Counts.{count_in, coefficients_in}
-use Rattle.nameless_forms.proofs.Adding.{IsBelow, absent, tied_is}
+use Rattle.nameless_forms.proofs.Adding.{IsBelow, tied_is}
 
 unit_same : (i : ℕ) → unit_at i i ≡ pos 1
 unit_same zero = refl

@@ -1,7 +1,7 @@
 -- The order of variables is one.
-use Rattle.std.specs.Prelude.{◌≡◌, Bool, true, false, Some}
+use Rattle.std.specs.Prelude.{◌≡◌, Some}
 use Rattle.std.proofs.Common.{refl, sym, ◌∙◌}
-use Rattle.std.specs.declared.cmp.Ordering.TheVariants.{Less, Equal, Greater}
+use Rattle.std.specs.declared.cmp.Ordering.TheVariants.{Less, Equal}
 use Rattle.std.specs.Ordering.{eq_by_cmp, ordering_reverse}
 use Rattle.std.specs.Cmp.{IsTotalOrder, IsEquivalence, IsPartialOrder, nat_cmp_total, unsigned_ties, eq_by_cmp_equiv, po}
 use Rattle.outline_language.specs.LinearForms.{Var, Free, Inside, variable_order, same_var}

@@ -4,12 +4,14 @@
 mod counts;
 mod faults;
 mod linear;
+mod putting;
 mod sums;
 mod terms;
 mod variables;
 
 pub use faults::FormFault;
 pub use linear::Form;
+pub use putting::form_with;
 pub use sums::{FormSum, Standing};
 pub use terms::{Names, form_of_term};
 pub use variables::Var;

@@ -157,7 +157,7 @@ impl FormSum {
         add_count(&mut self.counts, var, weight, 1)
     }
 
-    fn add_constant(&mut self, weight: i128, constant: i64)
+    pub(crate) fn add_constant(&mut self, weight: i128, constant: i64)
         requires weight { unsigned_abs weight ≤ 2 ^ 63 }
         requires within { IsWithin (2 ^ 246) self.old }
         ensures sum { self.new ≡ add_times weight (constant_form constant) self.old }

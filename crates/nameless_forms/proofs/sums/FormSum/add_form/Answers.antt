@@ -1,4 +1,4 @@
-use Rattle.std.proofs.Common.{rules, ◌≤◌, ◌^◌, unsigned_abs, sym, subst, arith}
+use Rattle.std.proofs.Common.{rules, ◌≤◌, ◌^◌, unsigned_abs, sym, subst}
 use Rattle.nameless_forms.specs.Sizes.{IsWithin}
 use Rattle.nameless_forms.proofs.Sizes.{constant_within}
 use Rattle.nameless_forms.proofs.sums.FormSum.add_form.Goals as goal
