@@ -2,4 +2,5 @@ pub mod Adding
 pub mod Coefficients
 pub mod Loops
 pub mod Sizes
+pub mod Staying
 pub mod Values

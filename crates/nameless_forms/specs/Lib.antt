@@ -4,5 +4,6 @@ pub mod Faults
 pub mod Order
 pub mod Places
 pub mod Putting
+pub mod Reaching
 pub mod Sizes
 pub mod Standings

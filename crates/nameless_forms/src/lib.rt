@@ -1,10 +1,12 @@
 //! Linear forms over places, in numbers of 64 bits, and the exact sums that they are made of.
 #![tactic(auto)]
 
+mod comparing;
 mod counts;
 mod faults;
 mod linear;
 mod putting;
+mod reaching;
 mod sums;
 mod terms;
 mod variables;
