@@ -1,6 +1,8 @@
 pub mod Codes
 pub mod Counts
+pub mod Differences
 pub mod Faults
+pub mod Limits
 pub mod Order
 pub mod Places
 pub mod Putting

@@ -4,6 +4,7 @@
 mod comparing;
 mod counts;
 mod faults;
+mod limits;
 mod linear;
 mod putting;
 mod reaching;
@@ -12,7 +13,8 @@ mod terms;
 mod variables;
 
 pub use faults::FormFault;
-pub use linear::Form;
+pub use limits::{Limit, at_most_row, at_most_row_with, less_row, less_row_with};
+pub use linear::{Form, Forms};
 pub use putting::form_with;
 pub use sums::{FormSum, Standing};
 pub use terms::{Names, form_of_term};

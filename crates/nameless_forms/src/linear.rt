@@ -20,6 +20,8 @@ pub struct Form {
     pub(crate) constant: i64,
 }
 
+pub type Forms = Items<Form>;
+
 impl Model for Form {
     ghost use Rattle.outline_language.specs.LinearForms.{LinearForm};
     ghost use Rattle.outline_language.specs.Canonical.{AreCanonical};

@@ -113,7 +113,8 @@ fn coefficients_of(
     counts: &Counts,
     variables: u32,
 ) -> Result<Coefficients, FormFault>
-    ensures ok { IfOk result (λ numbers. (numbers ≡ coefficients_in variables counts.now.entries) × (list_all fits (coefficients_in variables counts.now.entries) ≡ true)) }
+    ensures ok { IfOk result (λ numbers. numbers ≡ coefficients_in variables counts.now.entries) }
+    ensures narrow { IfOk result (λ _. list_all fits (coefficients_in variables counts.now.entries) ≡ true) }
     ensures err { IfErr result (λ fault. fault ≡ cause.TooLarge → list_all fits (coefficients_in variables counts.now.entries) ≡ false) }
 {
     let mut coefficients = Items::new(alloc);
@@ -137,10 +138,21 @@ impl FormSum {
         }
     }
 
+    /// The form, to be added to.
+    pub(crate) fn from_form(alloc: Global, form: &Form) -> Result<FormSum, Memory>
+        ensures sum { IfOk result (λ sum. sum ≡ form.now) }
+        ensures within { IfOk result (IsWithin (2 ^ 246)) }
+    {
+        let mut sum = FormSum::constant(alloc, 0);
+        sum.add_form(1, form)?;
+        Ok(sum)
+    }
+
     fn add_form(&mut self, weight: i128, form: &Form) -> Result<(), Memory>
         requires weight { unsigned_abs weight ≤ 2 ^ 63 }
         requires within { IsWithin (2 ^ 246) self.old }
         ensures sum { OnOk result (self.new ≡ add_times weight form.now self.old) }
+        ensures canonical { IsCanonical form.now }
         ensures within { (size : ℕ) → IsWithin size self.old → OnOk result (IsWithin (size + 2 ^ 185) self.new) }
     {
         add_multiples(&mut self.counts, weight, form.multiples.as_slice())?;

@@ -1,8 +1,5 @@
-use Rattle.std.proofs.Common.{rules, ◌≡◌, Ok, Err, false, true, ◌&&◌, to_z, of_z, w64, IfErr, refl, sym, ap, ◌∙◌, arith}
-use Rattle.std.specs.Result.{IsErrAnd}
+use Rattle.std.proofs.Common.{rules, ◌≡◌, to_z, of_z, w64, refl, ◌∙◌}
 use Rattle.std.proofs.lemmas.Grind.{common_steps}
-use Rattle.outline_language.specs.Contexts.{row_formed}
-use Rattle.nameless_forms.specs.Faults.{IsTooLarge}
 use Rattle.nameless_forms.proofs.Coefficients.{row_by_counts}
 use Rattle.nameless_forms.proofs.sums.FormSum.row.Goals as goal
 
@@ -12,7 +9,8 @@ returns-in_err-coefficients-clause-err c =
 
 pub returns-clause-ok : goal.returns-clause-ok
 returns-clause-ok c =
-    let (numbers, narrow) = c.in_ok-coefficients.ensures.ok in
+    let numbers = c.in_ok-coefficients.ensures.ok in
+    let narrow = c.in_ok-coefficients.ensures.narrow in
     let (number, fit) = c.in_ok-constant.ensures in
     let kept : to_z w64 (of_z w64 c.in_ok-constant.constant) ≡ c.in_ok-constant.constant = search rules in
     row_by_counts c.args.variables c.args.self.now _ c.self.invariant c.self.view_is ∙ rw (narrow, fit, kept, numbers, number) refl
