@@ -2,7 +2,8 @@
 ghost use Rattle.std.specs.Prelude.{◌≡◌, ◌+◌, ◌≤◌, ◌^◌, ℕ, pos, ◌*ℤ◌, Ok, unsigned_abs, true, false, OnOk, IfOk, IfErr};
 ghost use Rattle.std.specs.List.{list_all};
 ghost use Rattle.linear_forms.specs.Normal.{fits};
-ghost use Rattle.outline_language.specs.LinearForms.{constant_form, variable_form, add_multiple as multiple_with, add_multiples as multiples_with, add_times, plus_one, Free};
+ghost use Rattle.outline_language.specs.LinearForms.{add_multiple as multiple_with, add_multiples as multiples_with};
+ghost use Rattle.outline_language.specs.LinearForms.{constant_form, variable_form, add_times, plus_one, Free};
 ghost use Rattle.outline_language.specs.Canonical.{AreCanonical, IsCanonical};
 ghost use Rattle.outline_language.specs.Contexts.{formed, row_formed};
 ghost use Rattle.nameless_forms.specs.declared.faults.FormFault.TheVariants as cause;
