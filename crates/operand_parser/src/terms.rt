@@ -127,8 +127,7 @@ pub fn term(cursor: &mut Cursor<'_>, depth: usize) -> Result<Term, Stop>
 {
     let start = cursor.mark();
     let first = first_part(cursor, depth)?;
-    let mut parts = Items::new(cursor.alloc());
-    parts.push(first)?;
+    let mut parts = Items::from_vec(vec![in cursor.alloc(); first]?);
     parts.append(more_parts(cursor, depth)?)?;
     Ok(Term {
         parts,
@@ -154,8 +153,7 @@ pub fn number_term(cursor: &mut Cursor<'_>, depth: usize) -> Result<Term, Stop>
 {
     let start = cursor.mark();
     let first = number_part(cursor, depth)?;
-    let mut parts = Items::new(cursor.alloc());
-    parts.push(first)?;
+    let mut parts = Items::from_vec(vec![in cursor.alloc(); first]?);
     parts.append(more_parts(cursor, depth)?)?;
     Ok(Term {
         parts,

@@ -1,0 +1,11 @@
+pub mod Codes
+pub mod Counts
+pub mod Differences
+pub mod Faults
+pub mod Limits
+pub mod Order
+pub mod Places
+pub mod Putting
+pub mod Reaching
+pub mod Sizes
+pub mod Standings
