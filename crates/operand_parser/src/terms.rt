@@ -1,6 +1,6 @@
 //! Terms, limits, references and resources.
 
-ghost use Rattle.std.specs.Prelude.{◌≡◌, ℕ, ◌≤◌, [], ◌∷◌};
+ghost use Rattle.std.specs.Prelude.{◌≡◌, ℕ, ◌≤◌, [], ◌∷◌, IfOk};
 ghost use Rattle.grammar_laws.specs.Grammar.{next_in};
 ghost use Rattle.surface_grammar.specs.Words.{code};
 ghost use Rattle.surface_grammar.specs.Grammar.{yes};
@@ -11,6 +11,7 @@ ghost use Rattle.token_cursor.specs.Syntax.{Answers};
 
 use chan_syntax::{Part, Ref, Term, TermParts, Terms};
 use sqlite_items::Items;
+use std::alloc::{AllocError, Global};
 use surface_grammar::{Digits, Named, Word};
 use token_cursor::{Cursor, Stop};
 
@@ -121,13 +122,22 @@ pub fn more_parts(cursor: &mut Cursor<'_>, depth: usize) -> Result<TermParts, St
     Ok(found)
 }
 
+/// The first part, with room for no other: most terms have one.
+fn alone(alloc: Global, first: Part) -> Result<TermParts, AllocError>
+    ensures { IfOk result (λ parts. parts ≡ first ∷ []) }
+{
+    let mut parts = Vec::with_capacity(alloc, 1)?;
+    parts.push(first)?;
+    Ok(Items::from_vec(parts))
+}
+
 #[tactic(auto, unfolding(surface_grammar::specs::Terms::term))]
 pub fn term(cursor: &mut Cursor<'_>, depth: usize) -> Result<Term, Stop>
     ensures { Answers (At depth spec.term cursor.old) result cursor.new }
 {
     let start = cursor.mark();
     let first = first_part(cursor, depth)?;
-    let mut parts = Items::from_vec(vec![in cursor.alloc(); first]?);
+    let mut parts = alone(cursor.alloc(), first)?;
     parts.append(more_parts(cursor, depth)?)?;
     Ok(Term {
         parts,
@@ -153,7 +163,7 @@ pub fn number_term(cursor: &mut Cursor<'_>, depth: usize) -> Result<Term, Stop>
 {
     let start = cursor.mark();
     let first = number_part(cursor, depth)?;
-    let mut parts = Items::from_vec(vec![in cursor.alloc(); first]?);
+    let mut parts = alone(cursor.alloc(), first)?;
     parts.append(more_parts(cursor, depth)?)?;
     Ok(Term {
         parts,
