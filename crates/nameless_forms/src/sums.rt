@@ -1,14 +1,14 @@
 //! Linear forms that are still summed: exact, whatever their numbers.
 ghost use Rattle.std.specs.Prelude.{◌≡◌, ◌+◌, ◌≤◌, ◌^◌, ℕ, pos, ◌*ℤ◌, Ok, unsigned_abs, true, false, OnOk, IfOk, IfErr};
 ghost use Rattle.std.specs.List.{list_all};
-ghost use Rattle.linear_forms.specs.Normal.{fits};
+ghost use Rattle.linear_forms.specs.Normal.{fits, IsNumberOf};
 ghost use Rattle.outline_language.specs.LinearForms.{add_multiple as multiple_with, add_multiples as multiples_with};
 ghost use Rattle.outline_language.specs.LinearForms.{constant_form, variable_form, add_times, plus_one, Free};
 ghost use Rattle.outline_language.specs.Canonical.{AreCanonical, IsCanonical};
 ghost use Rattle.outline_language.specs.Contexts.{formed, row_formed};
 ghost use Rattle.nameless_forms.specs.declared.faults.FormFault.TheVariants as cause;
 ghost use Rattle.nameless_forms.specs.Counts.{count_in, coefficients_in};
-ghost use Rattle.nameless_forms.specs.Faults.{IsTooLarge, IsNumberOf};
+ghost use Rattle.nameless_forms.specs.Faults.{IsTooLarge};
 ghost use Rattle.nameless_forms.specs.Sizes.{AreWithin, IsWithin};
 ghost use Rattle.nameless_forms.specs.Standings.{standing_of};
 
@@ -84,7 +84,7 @@ fn add_multiples(counts: &mut Counts, weight: i128, multiples: &[Multiple]) -> R
 }
 
 fn number(sum: &Wide) -> Result<i64, FormFault>
-    ensures { IsNumberOf sum.now result }
+    ensures { IsNumberOf cause.TooLarge sum.now result }
 {
     sum.to_i64().ok_or(FormFault::TooLarge)
 }
@@ -101,7 +101,7 @@ fn multiples_of(alloc: Global, counts: &Counts) -> Result<Multiples, FormFault>
 }
 
 fn coefficient(counts: &Counts, place: u32) -> Result<i64, FormFault>
-    ensures { IsNumberOf (count_in (Free place) counts.now.entries) result }
+    ensures { IsNumberOf cause.TooLarge (count_in (Free place) counts.now.entries) result }
 {
     match counts.get(&Var::free(place)) {
         None => Ok(0),
