@@ -26,7 +26,8 @@ use Rattle.form_laws.proofs.OneFault.{one_outcome}
 use Rattle.session_layer.specs.Pure.{program_in}
 use Rattle.session_layer.proofs.Forms.{is_one_form}
 use Rattle.chanl_top.specs.declared.verdicts.Verdict.{Verdict}
-use Rattle.chanl_top.specs.Verdict.{replayed, lexing_line, grammar_line, line_refusal, ReadsAs, IsUnread, IsFmtVerdict, IsTreeVerdict, IsReplayVerdict, IsTextVerdict, IsCommandVerdict, IsVerdict}
+use Rattle.chanl_top.specs.Verdict.{replayed, lexing_line, grammar_line, line_refusal, IsUnread, IsFmtVerdict, IsTreeVerdict, IsReplayVerdict, IsTextVerdict, IsCommandVerdict, IsVerdict}
+use Rattle.spelling_laws.specs.Laws.{Reads}
 
 -- ---- a text is read as one tree, or refused by one line
 
@@ -48,12 +49,12 @@ one_line text line other (inr (ts, has, e, first, is)) (inr (us, has_too, f, sec
     let moved = subst (λ xs. parse.IsFirstFault text xs f) (one_list text us ts has_too has) second in
     is ∙ ap grammar_line (same_fault text ts e f first moved) ∙ sym is_too
 
-read_or_refused : (text line : List ℕ) (tree : Surface) → ReadsAs text tree → IsUnread text line → ⊥
+read_or_refused : (text line : List ℕ) (tree : Surface) → Reads text tree → IsUnread text line → ⊥
 read_or_refused text line tree (ts, has, derives) (inl (f, first, is)) = never_both text ts f has first
 read_or_refused text line tree (ts, has, derives) (inr (us, has_too, e, first, is)) =
     no_fault text us tree (subst (λ xs. Derives tree xs) (one_list text ts us has has_too) derives) e first
 
-one_surface : (text : List ℕ) (s t : Surface) → ReadsAs text s → ReadsAs text t → s ≡ t
+one_surface : (text : List ℕ) (s t : Surface) → Reads text s → Reads text t → s ≡ t
 one_surface text s t (ts, has, derives) (us, has_too, derives_too) =
     one_tree surface names_pass samples program program_passes s t us (max_levels, subst (λ xs. Derives s xs) (one_list text ts us has has_too) derives) (max_levels, derives_too)
 

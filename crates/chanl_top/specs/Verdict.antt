@@ -15,8 +15,8 @@ use Rattle.core_programs.specs.Form.{HasForm, IsFault}
 use Rattle.core_trees.specs.Core.{is_core}
 use Rattle.session_layer.specs.Lowering.{IsLowered}
 use Rattle.session_layer.specs.Pure.{program_in}
+use Rattle.spelling_laws.specs.Laws.{Reads}
 use Rattle.text_tokens.specs.Text.{Token, HasTokens, Fault, bad_byte, bad_token, number_too_large, IsFirstFault}
-use Rattle.surface_grammar.specs.Language.{Derives}
 use Rattle.surface_spelling.specs.Spelling.{spelling}
 use Rattle.chan_parser.specs.Parse as parse
 use Rattle.chanl_top.specs.declared.status.Status.{Status}
@@ -64,10 +64,6 @@ replayed program rounds = ran program (run_of program rounds)
 
 -- ---- reading a text
 
--- the text is read as the tree
-abbrev pub ReadsAs : List ℕ → Surface → Type 0
-ReadsAs text tree = (tokens : List Token) × HasTokens text tokens × Derives tree tokens
-
 -- why a text has no tokens
 abbrev pub lexing_line : Fault → List ℕ
 lexing_line (bad_byte span) = refused_at span (codes "bad byte")
@@ -93,7 +89,7 @@ line_refusal line = record { status = status.TextRefused; output = line }
 -- the canonical spelling of the tree
 abbrev pub IsFmtVerdict : List ℕ → Verdict → Type 0
 IsFmtVerdict text verdict =
-    ((tree : Surface) × ReadsAs text tree × (verdict ≡ record { status = status.Done; output = spelling tree }))
+    ((tree : Surface) × Reads text tree × (verdict ≡ record { status = status.Done; output = spelling tree }))
     ⊎ ((line : List ℕ) × IsUnread text line × (verdict ≡ line_refusal line))
 
 -- the run of the program that the tree says, or the first fault of its form, however its nodes are numbered
@@ -109,7 +105,7 @@ IsTreeVerdict tree rounds verdict =
 
 abbrev pub IsReplayVerdict : ℕ → List ℕ → Verdict → Type 0
 IsReplayVerdict rounds text verdict =
-    ((tree : Surface) × ReadsAs text tree × IsTreeVerdict tree rounds verdict)
+    ((tree : Surface) × Reads text tree × IsTreeVerdict tree rounds verdict)
     ⊎ ((line : List ℕ) × IsUnread text line × (verdict ≡ line_refusal line))
 
 abbrev pub IsTextVerdict : Command → List ℕ → Verdict → Type 0

@@ -1,12 +1,15 @@
 -- Which nodes mention a name, and where the bodies of nodes begin.
-use Rattle.std.specs.Prelude.{◌≡◌, ℕ, ◌+◌, List, [], ◌∷◌, ◌++◌, map, drop, Option, Some, None, slice_get}
+use Rattle.std.specs.Prelude.{◌≡◌, ℕ, ◌+◌, Bool, List, [], ◌∷◌, ◌++◌, map, drop, Option, Some, None, slice_get}
+use Rattle.std.specs.List.{list_any}
 use Rattle.std.specs.Global.{Vec}
 use Rattle.std.specs.BTreeMap.{BTreeMap}
+use Rattle.core_language.specs.Configurations.{names}
 use Rattle.core_language.specs.Names.{Ident}
 use Rattle.chan_syntax.specs.Reading.{term_of, supply_of}
 use Rattle.name_uses.specs.Uses.{term_names, supply_names, supplies_names, times, uses_in}
 use Rattle.core_programs.specs.declared.nodes.Node.{Node}
 use Rattle.core_programs.specs.declared.nodes.Node.TheVariants as node
+use Rattle.core_programs.specs.Bodies.{rest}
 use Rattle.core_programs.specs.Formed.{nexts}
 
 -- the names in a node's operands, its values, its channel and what it takes apart
@@ -45,6 +48,10 @@ nexts_at (Some x) = nexts x
 -- the numbers of the bodies that follow the node at a number, after the first of them
 abbrev pub later_nexts : List Node → ℕ → List ℕ
 later_nexts nodes n = drop 1 (nexts_at (slice_get nodes n))
+
+-- one of these bodies names the variable
+abbrev pub later_names : List Node → ℕ → Ident → Bool
+later_names nodes n x = list_any (λ m. names (rest nodes m) x) (later_nexts nodes n)
 
 -- ---- where bodies begin
 

@@ -1,12 +1,11 @@
 //! Whether a body names a variable, from node to node.
 ghost use Rattle.std.specs.Prelude.{◌≡◌, ◌<◌, length};
-ghost use Rattle.std.specs.List.{list_any};
 ghost use Rattle.std.specs.List.Sorted.{IsNonDecreasing};
 ghost use Rattle.core_language.specs.Configurations.{names};
 ghost use Rattle.core_language.specs.Names.{Ident as IdentOf};
 ghost use Rattle.core_programs.specs.Bodies.{rest};
 ghost use Rattle.core_programs.specs.Formed.{IsNumbered};
-ghost use Rattle.core_programs.specs.Uses.{uses_from, later_nexts};
+ghost use Rattle.core_programs.specs.Uses.{uses_from, later_names};
 
 use crate::follows::{next_count, next_number};
 use crate::nodes::Parts;
@@ -44,7 +43,7 @@ fn has_later_use(parts: &Parts, numbers: &[u32], number: u32) -> bool
     requires numbered { IsNumbered parts.now }
     requires within { number < length parts.now.nodes }
     requires ascending { IsNonDecreasing numbers.now }
-    ensures { (x : IdentOf) → numbers.now ≡ uses_from 0 parts.now.nodes x → result ≡ list_any (λ n. names (rest parts.now.nodes n) x) (later_nexts parts.now.nodes number) }
+    ensures { (x : IdentOf) → numbers.now ≡ uses_from 0 parts.now.nodes x → result ≡ later_names parts.now.nodes number x }
 {
     let nodes = parts.nodes.as_slice();
     let node = &nodes[number as usize];

@@ -3,7 +3,7 @@
 
 ghost use Rattle.std.specs.Prelude.{◌≡◌, ◌<◌, ◌+◌, ◌++◌, List, not, true, nat_eq, length, IfOk, OnOk};
 ghost use Rattle.std.specs.Option.{option_copied};
-ghost use Rattle.form_faults.specs.declared.sorts.Naming.TheVariants as naming;
+ghost use Rattle.form_faults.specs.declared.sorts.Naming.TheVariants.{Variables};
 ghost use Rattle.form_faults.specs.declared.signatures.Signature.{Signature};
 ghost use Rattle.form_faults.specs.Terms.{term_faults};
 ghost use Rattle.form_faults.specs.Operands.{pat_binders, path_faults, proof_faults, supply_faults};
@@ -63,7 +63,7 @@ fn check_terms_of(
     left: &Term,
     right: &Term,
 ) -> Result<(), Memory>
-    ensures { OnOk result (first.new ≡ least first.old (term_faults naming.Variables scope.now left.now ++ term_faults naming.Variables scope.now right.now)) }
+    ensures { OnOk result (first.new ≡ least first.old (term_faults Variables scope.now left.now ++ term_faults Variables scope.now right.now)) }
 {
     check_term(alloc, first, scope, Naming::Variables, left)?;
     check_term(alloc, first, scope, Naming::Variables, right)
@@ -77,7 +77,7 @@ fn check_division(
     divisor: u64,
     span: Span,
 ) -> Result<(), Memory>
-    ensures { OnOk result (first.new ≡ least first.old (term_faults naming.Variables scope.now term.now ++ unless (not (nat_eq divisor 0)) span)) }
+    ensures { OnOk result (first.new ≡ least first.old (term_faults Variables scope.now term.now ++ unless (not (nat_eq divisor 0)) span)) }
 {
     check_term(alloc, first, scope, Naming::Variables, term)?;
     note_number(alloc, first, divisor != 0, span);
@@ -108,7 +108,7 @@ fn check_variable(
     name: &Ident,
     span: Span,
 ) -> Result<(), Memory>
-    ensures { OnOk result (first.new ≡ least first.old (unscoped naming.Variables scope.now name.now span)) }
+    ensures { OnOk result (first.new ≡ least first.old (unscoped Variables scope.now name.now span)) }
 {
     check_name(alloc, first, scope, Naming::Variables, name, span)
 }
@@ -124,7 +124,7 @@ fn check_access(
     path_span: Option<Span>,
     span: Span,
 ) -> Result<(), Memory>
-    ensures { OnOk result (first.new ≡ least first.old (unscoped naming.Variables scope.now channel.now channel_span ++ path_faults path.now path_span span)) }
+    ensures { OnOk result (first.new ≡ least first.old (unscoped Variables scope.now channel.now channel_span ++ path_faults path.now path_span span)) }
 {
     check_variable(alloc, first, scope, channel, channel_span)?;
     check_path(alloc, first, path, path_span, span);

@@ -19,7 +19,7 @@ use Rattle.core_programs.specs.Trees.{tree}
 use Rattle.core_programs.specs.Passes.{proto_names, func_names, proto_signatures, func_signatures, body_faults, func_faults, funcs_faults, protos_faults}
 use Rattle.core_programs.specs.Form.{HasForm}
 use Rattle.frame_laws.proofs.Tests.{none_left, none_right}
-use Rattle.outline_language.specs.Paths.{Direction, fork_of, proto_named, written_message}
+use Rattle.outline_language.specs.Equations.{Direction, fork_of, proto_named, written_message}
 use Rattle.outline_values.specs.Formed.{nest_shape, FunctionFormed}
 use Rattle.form_soundness.specs.Laws.{FormIsFormed}
 use Rattle.form_soundness.proofs.References.{is_deepest, nests_less, all_shallow, res_knows, params_formed, MessageFormed, message_formed, ForkFormed, fork_formed, named_clean, proto_clean}

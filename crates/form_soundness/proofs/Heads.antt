@@ -11,8 +11,8 @@ use Rattle.chan_syntax.specs.declared.operands.Letter.{Letter}
 use Rattle.chan_syntax.specs.declared.operands.Letter.TheVariants as letter
 use Rattle.chan_syntax.specs.Reading.{equation_of, proto_of}
 use Rattle.protocol_guard.specs.Guards.{branch_of, graph_of, step, walk, IsGuarded}
-use Rattle.outline_language.specs.Paths.{Direction, Sends, Receives, Fork, fork_of, on_way, proto_named, written_message}
-use Rattle.good_configurations.specs.Ends.{Concrete, opposite_if, Head, Goes, letter_of, picked, next_at, next_in, next_of, HasHead}
+use Rattle.outline_language.specs.Equations.{Direction, Sends, Receives, Fork, fork_of, on_way, proto_named, written_message, Concrete}
+use Rattle.good_configurations.specs.Ends.{opposite_if, Head, Goes, letter_of, picked, next_at, next_in, next_of, HasHead}
 use Rattle.good_configurations.specs.Messages.{Does}
 use Rattle.outline_values.specs.Formed.{Knows}
 use Rattle.form_soundness.proofs.Places.{IsOneOf, below, below_all, without, walk-none, walk_more, walk_within, graph-long, step_by, IsPlaced, placed}

@@ -19,7 +19,7 @@ use Rattle.core_programs.specs.Bodies.{param_of, function_of}
 use Rattle.core_programs.specs.Passes.{func_names, is_unbound, is_unit, is_main, no_main}
 use Rattle.frame_laws.proofs.Tests.{same_is, either, faultless, none_left, none_right}
 use Rattle.frame_laws.proofs.Variables.{still_in_scope, now_in_scope}
-use Rattle.outline_language.specs.Rules.{is_empty, is_bare_unit}
+use Rattle.outline_language.specs.Rules.{is_bare_unit}
 use Rattle.outline_values.specs.Formed.{MainFormed}
 
 -- ---- empty lists
@@ -57,7 +57,7 @@ no_second (f ∷ fs) scope known none some =
 
 unit_bare : (bound : Bound) (shape : Shape) → is_nil bound.names ≡ true → is_nil bound.limits ≡ true → is_unit shape ≡ true → is_bare_unit (written.Binds (bound_of bound) (shape_of shape)) ≡ true
 unit_bare bound Unit names limits unit =
-    ap (λ xs. is_empty xs && is_empty (map limit_of bound.limits)) (nothing bound.names names) ∙ ap is_empty (nothing_in limit_of bound.limits limits)
+    ap (λ xs. is_nil xs && is_nil (map limit_of bound.limits)) (nothing bound.names names) ∙ ap is_nil (nothing_in limit_of bound.limits limits)
 unit_bare bound (Int term) names limits unit = cc
 unit_bare bound (End ref) names limits unit = cc
 unit_bare bound (Pair' _ first _ second) names limits unit = cc

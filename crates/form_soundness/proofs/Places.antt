@@ -12,7 +12,7 @@ use Rattle.chan_syntax.specs.Reading.{proto_of}
 use Rattle.protocol_guard.specs.declared.graphs.Turns.{Turns}
 use Rattle.protocol_guard.specs.Guards.{branch_of, proto_place, turns_of, graph_of, turned, step, walk}
 use Rattle.protocol_guard.proofs.Tables.{graph_closed}
-use Rattle.outline_language.specs.Paths.{proto_named}
+use Rattle.outline_language.specs.Equations.{proto_named}
 
 -- ---- lists of places
 

@@ -23,7 +23,7 @@ use Rattle.form_faults.specs.Resources.{shape_faults, res_in_faults, row_faults,
 use Rattle.core_programs.specs.Bodies.{param_of}
 use Rattle.core_programs.specs.Passes.{proto_signatures, protos_faults}
 use Rattle.frame_laws.proofs.Tests.{none_left, none_right, faultless}
-use Rattle.outline_language.specs.Paths.{Direction, Sends, Receives, Fork, fork_of, proto_named, written_message}
+use Rattle.outline_language.specs.Equations.{Direction, Sends, Receives, Fork, fork_of, proto_named, written_message}
 use Rattle.outline_values.specs.Formed.{Knows, KnowsShape, KnowsRes, KnowsResources, nest_shape, nest_resource, nest_arms, deepest, ParamsFormed}
 
 -- ---- references

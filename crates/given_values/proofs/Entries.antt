@@ -26,7 +26,7 @@ use Rattle.good_configurations.specs.Uses.{AreSame}
 use Rattle.outline_values.specs.Proper.{HasEntries, HasHeld, ProperForm, ProperForms, ProperShape}
 use Rattle.outline_values.specs.Formed.{IsOne, NamesAre}
 use Rattle.outline_values.proofs.Answers.{one_ok, err_ok, and_then-ok, provided-ok, or_why-ok, one_some, none_some}
-use Rattle.outline_values.proofs.Forms.{add_times-at, constant-at}
+use Rattle.outline_language.proofs.Values.{add_times-at, constant-at}
 use Rattle.outline_values.proofs.Proper.{term-proper, place-within}
 use Rattle.outline_values.proofs.Shapes.{no_uses}
 

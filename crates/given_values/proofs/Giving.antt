@@ -18,7 +18,8 @@ use Rattle.outline_language.specs.Giving.{Given, accept, give_variable, give_int
 use Rattle.outline_language.specs.Giving as giving
 use Rattle.graphs.specs.Graph.{count}
 use Rattle.graphs.proofs.Counts.{count-append}
-use Rattle.good_configurations.specs.Ends.{Concrete, at, concrete, integer_at}
+use Rattle.good_configurations.specs.Ends.{at, concrete, integer_at}
+use Rattle.outline_language.specs.Equations.{Concrete}
 use Rattle.good_configurations.specs.Values.{Use, KeepsAll, Has, HasShape, HasArm}
 use Rattle.good_configurations.specs.Uses.{AreSame}
 use Rattle.outline_values.specs.Proper.{HasEntries, ProperForms, ProperLimits, ProperRes, ProperResources, ProperShape, nest, nest_res, nest_resources}

@@ -21,7 +21,8 @@ use Rattle.outline_language.specs.Contexts.{Why, CertCount, NotProved, and_then,
 use Rattle.good_configurations.specs.Ends.{at, integer_at}
 use Rattle.good_configurations.specs.Values.{Keeps, KeepsAll, InRelation}
 use Rattle.outline_values.proofs.Answers.{one_ok, err_ok, and_then-ok, provided-ok, or_why-ok}
-use Rattle.outline_values.proofs.Forms.{form-agree, minus-at, plus_one-at, same_form-is, row-at}
+use Rattle.outline_values.proofs.Forms.{form-agree, same_form-is, row-at}
+use Rattle.outline_language.proofs.Values.{minus-at, plus_one-at}
 use Rattle.outline_values.proofs.Proper.{past}
 
 -- each row is at most 0

@@ -6,8 +6,7 @@ use Rattle.core_language.specs.Values.{Value}
 use Rattle.core_language.specs.Configurations.{Place}
 use Rattle.core_language.specs.Acts.{Act}
 use Rattle.core_language.specs.Acts as act
-use Rattle.outline_language.specs.Paths.{Sends, Receives}
-use Rattle.good_configurations.specs.Ends.{Concrete, opposite}
+use Rattle.outline_language.specs.Equations.{Sends, Receives, Concrete, opposite}
 use Rattle.good_configurations.specs.Values.{Use}
 use Rattle.good_configurations.specs.Uses.{AreSame}
 use Rattle.good_configurations.specs.Messages.{Does, Carries}

@@ -6,17 +6,10 @@ use Rattle.core_language.specs.Resources as written
 use Rattle.core_language.specs.Operands.{Letter, First, Second}
 use Rattle.outline_language.specs.LinearForms.{Var, Free, Inside, LinearForm, form_at}
 use Rattle.outline_language.specs.Nameless.{Ref, Res, nameless_term, nameless_ref, nameless_res}
-use Rattle.outline_language.specs.Paths.{Direction, Fork, fork_of, on_way, proto_named, written_message, turned}
+use Rattle.outline_language.specs.Paths.{turned}
+use Rattle.outline_language.specs.Equations.{Concrete, opposite, Direction, Fork, fork_of, on_way, proto_named, written_message}
 
--- a protocol at integers, or its dual
-pub record Concrete : Type 0 where
-  pub dual : Bool
-  pub name : Ident
-  pub args : List ℤ
-
-abbrev pub opposite : Concrete → Concrete
-opposite e = record { dual = not e.dual; name = e.name; args = e.args }
-
+-- the other end, where the mark is set
 abbrev pub opposite_if : Bool → Concrete → Concrete
 opposite_if mark e = if mark then opposite e else e
 

@@ -5,8 +5,7 @@ use Rattle.core_language.specs.Names.{Name, child}
 use Rattle.core_language.specs.Resources.{Proto}
 use Rattle.core_language.specs.Values.{Value}
 use Rattle.core_language.specs.Configurations.{Config, Task}
-use Rattle.outline_language.specs.Paths.{Receives}
-use Rattle.good_configurations.specs.Ends.{Concrete, opposite}
+use Rattle.outline_language.specs.Equations.{Receives, Concrete, opposite}
 use Rattle.graphs.specs.Graph.{task, channel}
 use Rattle.good_configurations.specs.Values.{Use}
 use Rattle.good_configurations.specs.Uses.{Uses, Holds, EndsAt, NoLeafIsEmpty}

@@ -2,8 +2,8 @@
 use Rattle.std.specs.Prelude.{◌≡◌, ℕ, List}
 use Rattle.core_language.specs.Resources.{Proto}
 use Rattle.core_language.specs.Values.{Value}
-use Rattle.outline_language.specs.Paths.{Direction}
-use Rattle.good_configurations.specs.Ends.{Concrete, Head, HasHead, no_values}
+use Rattle.outline_language.specs.Equations.{Direction, Concrete}
+use Rattle.good_configurations.specs.Ends.{Head, HasHead, no_values}
 use Rattle.good_configurations.specs.Values.{Use, Has}
 
 -- the end does this next

@@ -3,7 +3,7 @@ use Rattle.std.specs.Prelude.{◌≡◌, ◌≢◌, ◌≤◌, Bool, ◌&&◌, L
 use Rattle.std.specs.Ordering.{nat_cmp, eq_by_cmp}
 use Rattle.std.specs.Cmp.Lexicographic.{slice_cmp}
 use Rattle.core_language.specs.Names.{Name, same_name}
-use Rattle.good_configurations.specs.Ends.{Concrete}
+use Rattle.outline_language.specs.Equations.{Concrete}
 use Rattle.graphs.specs.Graph.{count, Node, same_node, edges, degree}
 use Rattle.good_configurations.specs.Values.{Use}
 

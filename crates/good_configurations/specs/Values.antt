@@ -7,7 +7,8 @@ use Rattle.core_language.specs.Values as value
 use Rattle.outline_language.specs.LinearForms.{Var, form_at}
 use Rattle.outline_language.specs.Nameless.{Limit, Shape, Res, Resources}
 use Rattle.outline_language.specs.Nameless as resource
-use Rattle.good_configurations.specs.Ends.{Concrete, at, concrete}
+use Rattle.good_configurations.specs.Ends.{at, concrete}
+use Rattle.outline_language.specs.Equations.{Concrete}
 
 -- an end of a channel, and what it still does
 abbrev pub Use : Type 0

@@ -16,8 +16,7 @@ use Rattle.graphs.proofs.Counts.{count_cases}
 use Rattle.graphs.proofs.Fewer.{count_pointwise_le}
 use Rattle.moved_uses.proofs.Bags.{name-self, same_holder, holder-is, differ_holder}
 use Rattle.moved_uses.proofs.Moving.{task_apart}
-use Rattle.outline_language.specs.Paths.{Sends, Receives}
-use Rattle.good_configurations.specs.Ends.{Concrete, opposite}
+use Rattle.outline_language.specs.Equations.{Sends, Receives, Concrete, opposite}
 use Rattle.good_configurations.specs.Values.{Use}
 use Rattle.good_configurations.specs.Uses.{Uses, AreSame, Holds, EndsAt}
 use Rattle.good_configurations.specs.Messages.{Does}

@@ -16,8 +16,7 @@ use Rattle.graphs.proofs.Counts.{count-filter, count_cases, count_agree, count_s
 use Rattle.graphs.proofs.Fewer.{count_pointwise_le}
 use Rattle.graphs.proofs.Live.{Distinct, has, stands, Each, sum_of, nothing_left, by_keys, has_count, count_has}
 use Rattle.moved_uses.proofs.Bags.{name-is, name-self, same_holder, holder-is, holder-self, member, count_false}
-use Rattle.outline_language.specs.Paths.{Sends, Receives}
-use Rattle.good_configurations.specs.Ends.{Concrete, opposite}
+use Rattle.outline_language.specs.Equations.{Sends, Receives, Concrete, opposite}
 use Rattle.good_configurations.specs.Values.{Use}
 use Rattle.good_configurations.specs.Uses.{Uses, AreSame, Holds, EndsAt}
 use Rattle.good_configurations.specs.Messages.{Does}

@@ -12,8 +12,7 @@ use Rattle.graphs.proofs.Counts.{count_cases, count-append}
 use Rattle.moved_uses.proofs.Bags.{name-self}
 use Rattle.moved_uses.proofs.Moving.{task_apart, channel_apart, kinds_apart, sent_task, sent_channel, sent_other, sent_ends, sent_end, sent_forest, received_task, received_channel, received_other, received_ends, received_end, received_forest}
 use Rattle.moved_uses.proofs.Moving as moved
-use Rattle.outline_language.specs.Paths.{Sends, Receives}
-use Rattle.good_configurations.specs.Ends.{Concrete, opposite}
+use Rattle.outline_language.specs.Equations.{Sends, Receives, Concrete, opposite}
 use Rattle.good_configurations.specs.Values.{Use}
 use Rattle.good_configurations.specs.Uses.{Uses, AreSame, Holds, EndsAt}
 use Rattle.good_configurations.specs.Messages.{Does, Carries}

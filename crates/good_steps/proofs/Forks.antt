@@ -11,8 +11,7 @@ use Rattle.graphs.proofs.Counts.{count-append}
 use Rattle.moved_uses.proofs.Bags.{name-self, differ_name}
 use Rattle.moved_uses.proofs.Moving.{forked_parent, forked_child, forked_other, forked_ends, forked_end, forked_forest, task_apart, kinds_apart}
 use Rattle.moved_uses.proofs.Moving as moved
-use Rattle.outline_language.specs.Paths.{Sends, Receives}
-use Rattle.good_configurations.specs.Ends.{Concrete, opposite}
+use Rattle.outline_language.specs.Equations.{Sends, Receives, Concrete, opposite}
 use Rattle.good_configurations.specs.Values.{Use}
 use Rattle.good_configurations.specs.Uses.{Uses, AreSame, Holds, EndsAt}
 use Rattle.good_configurations.specs.Messages.{Does}

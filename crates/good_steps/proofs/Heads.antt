@@ -5,8 +5,9 @@ use Rattle.core_language.specs.Resources.{Proto}
 use Rattle.core_language.specs.Resources as written
 use Rattle.core_language.specs.Values.{Value}
 use Rattle.outline_language.specs.Nameless.{nameless_res}
-use Rattle.outline_language.specs.Paths.{Direction, Sends, Receives, other_direction, Fork, fork_of, proto_named, written_message, turned}
-use Rattle.good_configurations.specs.Ends.{Concrete, opposite, opposite_if, Head, Next, Gives, Goes, Lost, next_at, next_in, next_of, HasHead, letter_of, picked}
+use Rattle.outline_language.specs.Paths.{turned}
+use Rattle.outline_language.specs.Equations.{Direction, Sends, Receives, other_direction, Fork, fork_of, proto_named, written_message, Concrete, opposite}
+use Rattle.good_configurations.specs.Ends.{opposite_if, Head, Next, Gives, Goes, Lost, next_at, next_in, next_of, HasHead, letter_of, picked}
 use Rattle.good_configurations.specs.Values.{Use}
 use Rattle.good_configurations.specs.Messages.{Does, Carries}
 

@@ -10,7 +10,7 @@ use Rattle.core_language.specs.Configurations.{Config, Place, Task}
 use Rattle.core_language.specs.Steps.{with_task}
 use Rattle.graphs.specs.Graph.{task, channel}
 use Rattle.moved_uses.proofs.Bags.{name-is, name-self}
-use Rattle.good_configurations.specs.Ends.{Concrete, opposite}
+use Rattle.outline_language.specs.Equations.{Concrete, opposite}
 use Rattle.good_configurations.specs.Values.{Use}
 use Rattle.good_configurations.specs.Uses.{Uses, Holds, EndsAt}
 use Rattle.good_configurations.specs.Acts.{Typing, Stands}

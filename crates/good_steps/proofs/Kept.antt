@@ -10,7 +10,7 @@ use Rattle.core_language.specs.Acts as act
 use Rattle.core_language.specs.Steps.{effect, forked, step, step_at, after_step}
 use Rattle.core_language.specs.Schedules.{steps_from}
 use Rattle.graphs.specs.Graph.{task}
-use Rattle.good_configurations.specs.Ends.{opposite}
+use Rattle.outline_language.specs.Equations.{opposite}
 use Rattle.good_configurations.specs.Values.{Use}
 use Rattle.good_configurations.specs.Uses.{Holds}
 use Rattle.good_configurations.specs.Acts.{Typing, Stands, Fits}

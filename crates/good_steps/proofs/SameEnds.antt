@@ -6,7 +6,7 @@ use Rattle.std.proofs.lemmas.Bool.{and_parts}
 use Rattle.core_language.specs.Names.{same_name}
 use Rattle.graphs.specs.Graph.{count}
 use Rattle.moved_uses.proofs.Bags.{name-is, name-self}
-use Rattle.good_configurations.specs.Ends.{Concrete}
+use Rattle.outline_language.specs.Equations.{Concrete}
 
 abbrev pub same_ints : List ℤ → List ℤ → Bool
 same_ints [] [] = true

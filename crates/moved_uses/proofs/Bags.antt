@@ -10,7 +10,7 @@ use Rattle.graphs.specs.Graph.{count, Node, same_node}
 use Rattle.graphs.proofs.Counts.{count-map, count-filter, count_cases, count_agree}
 use Rattle.graphs.proofs.Live.{node-is, node-self}
 use Rattle.core_language.specs.Names.{Name, same_name}
-use Rattle.good_configurations.specs.Ends.{Concrete}
+use Rattle.outline_language.specs.Equations.{Concrete}
 use Rattle.good_configurations.specs.Values.{Use}
 use Rattle.good_configurations.specs.Uses.{Uses, Holds}
 

@@ -5,7 +5,7 @@ use Rattle.graphs.specs.Graph.{count, Node, task, channel, same_node, edge_of, e
 use Rattle.graphs.proofs.Counts.{Within, count-append, count-map, count_agree}
 use Rattle.graphs.proofs.Forest.{shift, send_keeps, recv_keeps, fork_keeps, no_triangle}
 use Rattle.core_language.specs.Names.{Name, same_name}
-use Rattle.good_configurations.specs.Ends.{Concrete}
+use Rattle.outline_language.specs.Equations.{Concrete}
 use Rattle.good_configurations.specs.Values.{Use}
 use Rattle.good_configurations.specs.Uses.{Uses, Holds, EndsAt, NoLeafIsEmpty}
 use Rattle.moved_uses.proofs.Bags.{name-self, differ_name, same_holder, holder-is, holder-self, differ_holder, Test, held_by, without, count-held_by, count_all, none_without, count_false, count_except, member, others_held}

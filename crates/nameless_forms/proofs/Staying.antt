@@ -8,9 +8,9 @@ use Rattle.outline_language.specs.LinearForms.{Var, Free, Inside, Multiple, Line
 use Rattle.outline_language.specs.Canonical.{IsCanonical}
 use Rattle.outline_language.specs.Nameless.{instance_for, form_with}
 use Rattle.outline_language.proofs.OneForm.{one_form}
-use Rattle.nameless_ties.proofs.Values.{variable-at, put-at}
+use Rattle.outline_language.proofs.Values.{variable-at, put-at}
 use Rattle.nameless_forms.specs.Reaching.{var_reach, multiples_reach}
-use Rattle.nameless_forms.proofs.Values.{put_canonical}
+use Rattle.outline_language.proofs.Sums.{put_canonical}
 
 variable_stays : (instances : List LinearForm) (depth : ℕ) (v : Var) → var_reach v ≤ depth → instance_for instances depth v ≡ variable_form v
 variable_stays instances depth (Free i) within = refl

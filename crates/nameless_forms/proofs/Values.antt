@@ -1,16 +1,12 @@
 -- Sums that have one value everywhere.
-use Rattle.std.proofs.Common.{◌≡◌, ℤ, pos, ◌*ℤ◌, List, [], ◌∷◌, ap, arith}
+use Rattle.std.proofs.Common.{◌≡◌, ℤ, pos, ◌*ℤ◌, ap, arith}
 use Rattle.std.proofs.lemmas.Int.{ints}
 use Rattle.farkas_check.proofs.Products.{distribute, times_times}
-use Rattle.outline_language.specs.LinearForms.{Var, Multiple, LinearForm, form_at, add_times, constant_form, put_multiples}
+use Rattle.outline_language.specs.LinearForms.{Var, LinearForm, form_at, add_times, constant_form}
 use Rattle.outline_language.specs.Canonical.{IsCanonical}
 use Rattle.outline_language.proofs.OneForm.{one_form}
 use Rattle.outline_language.proofs.Sums.{sums_canonical}
-use Rattle.nameless_ties.proofs.Values.{add_times-at, constant-at}
-
-pub put_canonical : (put : Var → LinearForm) (z : ℤ) (ms : List Multiple) → IsCanonical (put_multiples put z ms)
-put_canonical put z [] = tt
-put_canonical put z (m ∷ ms) = sums_canonical m.1 (put m.0) (put_multiples put z ms) (put_canonical put z ms)
+use Rattle.outline_language.proofs.Values.{add_times-at, constant-at}
 
 -- a canonical form, added once to nothing, is itself
 pub once : (f : LinearForm) → IsCanonical f → add_times (pos 1) f (constant_form (pos 0)) ≡ f

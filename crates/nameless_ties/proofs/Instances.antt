@@ -16,19 +16,15 @@ use Rattle.outline_language.specs.Nameless as nameless
 use Rattle.outline_language.specs.Nameless.{at_place, nameless_term, instance_for, form_with}
 use Rattle.outline_language.specs.Canonical.{IsCanonical}
 use Rattle.outline_language.proofs.OneForm.{one_form}
-use Rattle.outline_language.proofs.Sums.{sums_canonical}
+use Rattle.outline_language.proofs.Sums.{sums_canonical, put_canonical}
 use Rattle.nameless_ties.specs.Ties.{names_put, forms_put, PutTermIsInstance}
-use Rattle.nameless_ties.proofs.Values.{add_times-at, constant-at, variable-at, put-at}
+use Rattle.outline_language.proofs.Values.{add_times-at, constant-at, variable-at, put-at}
 
 -- ---- canonical
 
 term_canonical : (f : Ident → LinearForm) (t : Term) → IsCanonical (form_of_term f t)
 term_canonical f [] = tt
 term_canonical f (p ∷ ps) = sums_canonical (times_of p) (of_name f p.name) (form_of_term f ps) (term_canonical f ps)
-
-put_canonical : (put : Var → LinearForm) (z : ℤ) (ms : List Multiple) → IsCanonical (put_multiples put z ms)
-put_canonical put z [] = tt
-put_canonical put z (m ∷ ms) = sums_canonical m.1 (put m.0) (put_multiples put z ms) (put_canonical put z ms)
 
 -- ---- values
 

@@ -3,3 +3,4 @@ pub mod FirstFaults
 pub mod Bodies
 pub mod OneForm
 pub mod Sums
+pub mod Values

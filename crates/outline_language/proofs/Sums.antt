@@ -6,8 +6,8 @@ use Rattle.std.specs.declared.cmp.Ordering.{Ordering}
 use Rattle.std.specs.declared.cmp.Ordering.TheVariants.{Less, Equal, Greater}
 use Rattle.std.specs.List.{AllByRecursion}
 use Rattle.std.proofs.lemmas.Bool.Decides.{nat_tests}
-use Rattle.outline_language.specs.LinearForms.{Var, Free, Inside, Multiple, variable_order, unless_zero, by_order, add_multiple, add_multiples}
-use Rattle.outline_language.specs.Canonical.{AreCanonical, SumsAreCanonical}
+use Rattle.outline_language.specs.LinearForms.{Var, Free, Inside, Multiple, LinearForm, variable_order, unless_zero, by_order, add_multiple, add_multiples, put_multiples}
+use Rattle.outline_language.specs.Canonical.{IsCanonical, AreCanonical, SumsAreCanonical}
 use Rattle.outline_language.proofs.OneForm.{order-trans}
 
 is_equal : Ordering → Bool
@@ -78,3 +78,8 @@ canonical_sums weight (m ∷ ms) ns canonical = canonical_added m.0 (weight *ℤ
 
 pub sums_canonical : SumsAreCanonical
 sums_canonical weight f g canonical = canonical_sums weight f.multiples g.multiples canonical
+
+-- so is a form put together of forms
+pub put_canonical : (put : Var → LinearForm) (z : ℤ) (ms : List Multiple) → IsCanonical (put_multiples put z ms)
+put_canonical put z [] = tt
+put_canonical put z (m ∷ ms) = sums_canonical m.1 (put m.0) (put_multiples put z ms) (put_canonical put z ms)

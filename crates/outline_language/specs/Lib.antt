@@ -1,3 +1,4 @@
+pub mod Equations
 pub mod LinearForms
 pub mod Nameless
 pub mod Contexts

@@ -2,80 +2,18 @@
 use Rattle.std.specs.Prelude.{Bool, true, false, not, if◌then◌else◌, List, [], ◌∷◌, Option, Some, None, Result, Ok}
 use Rattle.std.specs.List.{list_all}
 use Rattle.core_language.specs.Names.{Ident, same}
-use Rattle.core_language.specs.Terms.{Term, Bound}
-use Rattle.core_language.specs.Resources.{Equation, Proto, Send, Recv, Close, Wait, Branch}
+use Rattle.core_language.specs.Resources.{Proto}
 use Rattle.core_language.specs.Resources as written
 use Rattle.core_language.specs.Operands.{Letter, First, Second}
+use Rattle.outline_language.specs.Equations.{Direction, other_direction, written_message, Fork, fork_of, on_way, proto_named}
 use Rattle.outline_language.specs.LinearForms.{LinearForm, minus, plus_one, form_fits}
 use Rattle.outline_language.specs.Nameless.{Ref, Res, turned_if, nameless_term, nameless_ref, nameless_res, form_with, ref_with, res_with, res_fits}
 use Rattle.outline_language.specs.Contexts.{Why, WrongForm, TooLarge, BranchNotProved, and_then, or_why, provided, Context, Cursor, formed, oblige}
-
-pub data Direction : Type 0 where
-  Sends : Direction
-  Receives : Direction
-
-abbrev pub other_direction : Direction → Direction
-other_direction Sends = Receives
-other_direction Receives = Sends
-
-abbrev pub sends : Direction → Bool
-sends Sends = true
-sends Receives = false
 
 -- a direction, and what is sent
 pub record Message : Type 0 where
   pub direction : Direction
   pub res : Res
-
--- ---- equations
-
-abbrev pub no_bound : Bound
-no_bound = record { names = []; limits = [] }
-
--- a shape without binders
-abbrev pub bare : written.Shape → written.Res
-bare shape = written.Binds no_bound shape
-
--- a resource, with the end at which the receiver goes on where there is one
-abbrev pub with_end : written.Res → Option written.Ref → written.Res
-with_end res None = res
-with_end (written.Binds bound shape) (Some ref) = written.Binds bound (written.Pair (bare shape) (bare (written.End ref)))
-
-abbrev pub dual_written : written.Ref → written.Ref
-dual_written ref = record { dual = not ref.dual; name = ref.name; args = ref.args }
-
-abbrev pub dual_next : Option written.Ref → Option written.Ref
-dual_next None = None
-dual_next (Some ref) = Some (dual_written ref)
-
--- what an equation that isn't `if` sends or receives: the sender's end goes on as the dual of what it sends along
-abbrev pub written_message : Equation → Option (Direction × written.Res)
-written_message (Send res next) = Some (Sends, with_end res (dual_next next))
-written_message (Recv res next) = Some (Receives, with_end res next)
-written_message Close = Some (Sends, bare written.Unit)
-written_message Wait = Some (Receives, bare written.Unit)
-written_message (Branch left right this other) = None
-
--- an `if` equation
-pub record Fork : Type 0 where
-  pub left : Term
-  pub right : Term
-  pub this : written.Ref
-  pub other : written.Ref
-
-abbrev pub fork_of : Equation → Option Fork
-fork_of (Branch left right this other) = Some (record { left = left; right = right; this = this; other = other })
-fork_of _ = None
-
--- the reference that a letter picks
-abbrev pub on_way : Letter → Fork → written.Ref
-on_way First fork = fork.this
-on_way Second fork = fork.other
-
--- the first protocol with this name
-abbrev pub proto_named : Ident → List Proto → Option Proto
-proto_named x [] = None
-proto_named x (p ∷ ps) = if same p.name x then Some p else proto_named x ps
 
 -- ---- one letter for each `if` equation on the way
 

@@ -1,6 +1,7 @@
 -- The fifteen rules: what a form of a body makes of its context, or the first reason why it fails. Conditions are tried in the order written.
 use Rattle.std.specs.Prelude.{ℕ, Bool, true, false, pos, neg_ℤ, ◌-ℤ◌, not, ◌&&◌, List, [], ◌∷◌, map, length, Option, Some, None, Result, Ok}
 use Rattle.core_language.specs.Names.{Ident}
+use Rattle.core_language.specs.Endings.{is_nil}
 use Rattle.core_language.specs.Terms.{Term}
 use Rattle.core_language.specs.Resources as written
 use Rattle.core_language.specs.Operands.{Letter, Pat, Proof, Supply}
@@ -9,7 +10,8 @@ use Rattle.outline_language.specs.LinearForms.{Free, LinearForm, constant_form, 
 use Rattle.outline_language.specs.Nameless.{Ref, Limit, Shape, Res, Resources, Int, End, NoMore, More, dual_ref, nameless_limit, nameless_shape, nameless_res, same_res}
 use Rattle.outline_language.specs.Contexts.{Why, WrongForm, ForkForm, NotProved, and_then, or_why, provided, nothing, Context, Cursor, start_of, meaning, meanings, oblige, Supplied, instances, put_in_shape, put_in_res, leftovers, take, hold, nothing_left, add_int, add_hyp, add_hyps, bind}
 use Rattle.outline_language.specs.Giving.{Given, accept, give, give_all, pair_of, sum_of}
-use Rattle.outline_language.specs.Paths.{Message, sends, unfolded}
+use Rattle.outline_language.specs.Paths.{Message, unfolded}
+use Rattle.outline_language.specs.Equations.{sends}
 
 -- ---- integers
 
@@ -111,13 +113,9 @@ abbrev pub first_end : List Shape → Option (Ref × List Shape)
 first_end (End ref ∷ shapes) = Some (ref, shapes)
 first_end _ = None
 
-abbrev pub is_empty : {A : Type 0} → List A → Bool
-is_empty [] = true
-is_empty (x ∷ xs) = false
-
 -- the unit without binders
 abbrev pub is_bare_unit : written.Res → Bool
-is_bare_unit (written.Binds bound written.Unit) = is_empty bound.names && is_empty bound.limits
+is_bare_unit (written.Binds bound written.Unit) = is_nil bound.names && is_nil bound.limits
 is_bare_unit (written.Binds bound _) = false
 
 -- a function that may be forked

@@ -26,8 +26,8 @@ use Rattle.outline_language.specs.Giving.{Given, give_all, accept, pair_of}
 use Rattle.outline_language.specs.Giving as giving
 use Rattle.outline_language.specs.Rules.{Called, limits_of, param_shapes, result_of, instances_for, called_with, called, first_end, is_bare_unit, fork_form, give_end, forked_with}
 use Rattle.outline_language.specs.Outlined.{own_result, OutlinedBody, OutlinedFunction, IsOutlined}
-use Rattle.outline_language.specs.Paths.{Sends, Receives}
-use Rattle.good_configurations.specs.Ends.{Concrete, opposite, concrete, integer_at}
+use Rattle.outline_language.specs.Equations.{Sends, Receives, Concrete, opposite}
+use Rattle.good_configurations.specs.Ends.{concrete, integer_at}
 use Rattle.good_configurations.specs.Messages.{Does}
 use Rattle.good_configurations.specs.Ends as ends
 use Rattle.good_configurations.specs.Values.{Use, KeepsAll, Has, HasShape}
@@ -36,7 +36,7 @@ use Rattle.good_configurations.specs.Acts.{Stands, Fits}
 use Rattle.outline_values.specs.Proper.{HasEntries, ProperForms, ProperRes, ProperShape, nest, nest_res}
 use Rattle.outline_values.specs.Formed.{deepest, NamesAre, SuppliesNames, NamesBound, FunctionFormed, IsFormed}
 use Rattle.outline_values.proofs.Answers.{one_ok, err_ok, and_then-ok, provided-ok, or_why-ok, one_some, none_some}
-use Rattle.outline_values.proofs.Forms.{minus-at, plus_one-at, constant-at}
+use Rattle.outline_language.proofs.Values.{minus-at, plus_one-at, constant-at}
 use Rattle.outline_values.proofs.Proper.{length-map}
 use Rattle.given_values.proofs.Obliging.{oblige-true}
 use Rattle.given_values.proofs.Entries.{meanings-proper}

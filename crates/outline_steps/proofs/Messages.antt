@@ -33,13 +33,14 @@ use Rattle.good_configurations.specs.Acts.{Stands, Fits}
 use Rattle.outline_values.specs.Proper.{HasEntries, ProperRef, ProperRes, ProperShape}
 use Rattle.outline_values.specs.Formed.{NamesBound, IsFormed}
 use Rattle.outline_values.proofs.Answers.{one_ok, err_ok, and_then-ok, provided-ok, or_why-ok, one_some, none_some}
-use Rattle.outline_values.proofs.Forms.{minus-at, plus_one-at, constant-at}
+use Rattle.outline_language.proofs.Values.{minus-at, plus_one-at, constant-at}
 use Rattle.given_values.proofs.Obliging.{oblige-true}
 use Rattle.given_values.proofs.Entries.{take-typed, TakenAs}
 use Rattle.given_values.proofs.Giving.{give-typed, GivenAs}
 use Rattle.good_configurations.specs.Messages.{Carries}
 use Rattle.good_steps.proofs.Heads.{head_is_one}
-use Rattle.outline_language.specs.Paths.{Direction, Sends, Receives, sends, Unfolded, unfolded}
+use Rattle.outline_language.specs.Paths.{Unfolded, unfolded}
+use Rattle.outline_language.specs.Equations.{Direction, Sends, Receives, sends}
 use Rattle.standing_contexts.proofs.Unfolding.{HeadTyped, unfolded-typed}
 use Rattle.standing_contexts.proofs.Standing.{hyps-true, grow_hyps, grow_entries, other_entries, add_hyp-is, res-moves}
 use Rattle.standing_contexts.proofs.Binding.{Grown, bind-typed, new_int-typed}

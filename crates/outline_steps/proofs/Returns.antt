@@ -33,7 +33,7 @@ use Rattle.good_configurations.specs.Acts.{Stands, Fits}
 use Rattle.outline_values.specs.Proper.{HasEntries, ProperRes, ProperResources, ProperShape}
 use Rattle.outline_values.specs.Formed.{NamesAre, NamesBound, ArmsBound}
 use Rattle.outline_values.proofs.Answers.{one_ok, err_ok, and_then-ok, provided-ok, or_why-ok, one_some, none_some}
-use Rattle.outline_values.proofs.Forms.{minus-at, plus_one-at, constant-at}
+use Rattle.outline_language.proofs.Values.{minus-at, plus_one-at, constant-at}
 use Rattle.outline_values.proofs.Proper.{res-more}
 use Rattle.given_values.proofs.Obliging.{oblige-true}
 use Rattle.given_values.proofs.Entries.{take-typed, TakenAs}

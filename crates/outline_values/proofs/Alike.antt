@@ -7,7 +7,8 @@ use Rattle.core_language.specs.Values as value
 use Rattle.outline_language.specs.LinearForms.{Var, Free, Inside, LinearForm, form_at}
 use Rattle.outline_language.specs.Nameless.{Ref, Limit, Shape, Res, Resources, Int, End, Pair, Sum, Binds, NoMore, More}
 use Rattle.outline_language.specs.Nameless as shape
-use Rattle.good_configurations.specs.Ends.{Concrete, at, concrete}
+use Rattle.good_configurations.specs.Ends.{at, concrete}
+use Rattle.outline_language.specs.Equations.{Concrete}
 use Rattle.good_configurations.specs.Values.{Use, InRelation, Keeps, KeepsAll, Has, HasShape, HasArm}
 
 -- under so many binders the first form has at w and b the value that the second has at u and c

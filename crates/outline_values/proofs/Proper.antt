@@ -14,11 +14,12 @@ use Rattle.linear_forms.specs.Substitution.{place_of}
 use Rattle.outline_language.specs.LinearForms.{Var, Free, Inside, Multiple, LinearForm, variable_order, unless_zero, by_order, add_multiple, add_multiples, add_times, constant_form, variable_form, of_name, form_of_term, put_multiples, put_form, multiples_at, form_at}
 use Rattle.outline_language.specs.Nameless.{Ref, Limit, Shape, Res, Resources, Int, End, Pair, Sum, Binds, NoMore, More, at_place, named_form, nameless_term, nameless_limit, nameless_ref, nameless_shape, nameless_res, nameless_resources, instance_for, form_with, limit_with, ref_with, shape_with, res_with, resources_with}
 use Rattle.outline_language.specs.Nameless as shape
-use Rattle.outline_language.specs.Paths.{proto_named}
+use Rattle.outline_language.specs.Equations.{proto_named}
 use Rattle.good_configurations.specs.Ends.{at, integer_at}
 use Rattle.outline_values.specs.Proper.{ProperVar, ProperParts, ProperForm, ProperForms, ProperLimits, ProperRef, ProperShape, ProperRes, ProperResources}
 use Rattle.outline_values.specs.Formed.{Knows, KnowsShape, KnowsRes, KnowsResources}
-use Rattle.outline_values.proofs.Forms.{term-agree, put-at, constant-at, variable-at}
+use Rattle.outline_values.proofs.Forms.{term-agree}
+use Rattle.outline_language.proofs.Values.{put-at, constant-at, variable-at}
 use Rattle.outline_values.proofs.Alike.{OneValue, FormsAlike, LimitsAlike, RefAlike, ShapeAlike, ResAlike, ResourcesAlike}
 
 -- ---- integers by their places

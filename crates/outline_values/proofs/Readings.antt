@@ -14,7 +14,8 @@ use Rattle.outline_language.specs.Nameless as shape
 use Rattle.good_configurations.specs.Ends.{at, integer_at}
 use Rattle.good_configurations.specs.Values.{Use, KeepsAll, Has, HasShape}
 use Rattle.outline_values.specs.Proper.{ProperForm, ProperForms, ProperLimits, ProperParts, ProperRef, ProperRes, ProperResources, ProperShape, ProperVar}
-use Rattle.outline_values.proofs.Forms.{term-agree, put-at, constant-at, variable-at}
+use Rattle.outline_values.proofs.Forms.{term-agree}
+use Rattle.outline_language.proofs.Values.{put-at, constant-at, variable-at}
 use Rattle.outline_values.proofs.Alike.{OneValue, FormsAlike, LimitsAlike, RefAlike, ShapeAlike, ResAlike, ResourcesAlike, has_shape-alike, has-alike, keeps-alike, shape-turned, res-turned}
 use Rattle.outline_values.proofs.Proper.{low_values, high, past}
 

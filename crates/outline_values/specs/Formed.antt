@@ -10,9 +10,8 @@ use Rattle.core_language.specs.Operands as supply
 use Rattle.core_language.specs.Programs.{Body, Arms, Function, Program, function_named, main_function}
 use Rattle.core_language.specs.Programs as body
 use Rattle.core_language.specs.Computing.{bare_name}
-use Rattle.outline_language.specs.Paths.{Direction, Sends, Receives, Fork, fork_of, proto_named, written_message}
+use Rattle.outline_language.specs.Equations.{Direction, Sends, Receives, Fork, fork_of, proto_named, written_message, Concrete}
 use Rattle.outline_language.specs.Rules.{is_bare_unit}
-use Rattle.good_configurations.specs.Ends.{Concrete}
 use Rattle.good_configurations.specs.Messages.{Does}
 
 -- ---- references that are known

@@ -11,7 +11,7 @@ use Rattle.linear_forms.specs.Normal.{names_of}
 use Rattle.linear_forms.proofs.SameNames.{same_is, same-turned}
 use Rattle.linear_forms.specs.Substitution.{Scoped}
 use Rattle.protocols.specs.Duals.{message_of, branches_of}
-use Rattle.protocols.specs.Heads.{proto_named}
+use Rattle.outline_language.specs.Equations.{proto_named}
 use Rattle.protocols.specs.Unfolding.{NamesOnly, NamesUnder, branch_terms, message_terms, HasArity, AreFormed}
 use Rattle.protocol_tests.specs.Examples.{Stop, examples}
 

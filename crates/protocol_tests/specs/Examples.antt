@@ -3,7 +3,7 @@ use Rattle.std.specs.Prelude.{ℤ, pos, negsuc, false, List, [], ◌∷◌, Opti
 use Rattle.core_language.specs.Names.{Ident}
 use Rattle.core_language.specs.Terms.{Part, Term, Limit, Bound, AtMost}
 use Rattle.core_language.specs.Resources.{Ref, Res, Equation, Proto, Send, Recv, Close, Wait, Branch, Binds, Int}
-use Rattle.protocols.specs.Duals.{no_bound}
+use Rattle.outline_language.specs.Equations.{no_bound}
 
 -- ---- names
 

@@ -24,7 +24,8 @@ use Rattle.chan_syntax.specs.declared.linear.Term as written
 use Rattle.chan_syntax.specs.declared.operands.WrittenCert.{WrittenCert}
 use Rattle.outline_rules.specs.Naming.{int_names_of}
 use Rattle.outline_rules.specs.declared.naming.IntNames as context
-use Rattle.protocols.specs.Unfolding.{asked_term, NamesOnly, mention_for, taken, BranchNotProved}
+use Rattle.protocols.specs.Unfolding.{asked_term, NamesOnly, taken, BranchNotProved}
+use Rattle.outline_language.specs.Contexts.{mentioned}
 
 -- ---- names of what is asked
 
@@ -111,16 +112,16 @@ terms_too_large put ts l r e none fit_l fit_r =
 
 -- ---- certificates
 
-mentions_back : (ms : List Mention) → map mention_for (map mention_in ms) ≡ ms
+mentions_back : (ms : List Mention) → map mentioned (map mention_in ms) ≡ ms
 mentions_back [] = refl
 mentions_back (m ∷ ms) = ap (λ l. m ∷ l) (mentions_back ms)
 
-verdict_is : (cert : Cert) (written : WrittenCert) (hyps : List Row) (row : Row) → cert_in cert ≡ cert_of written → verdict (faults (cert_of written).divisor (map mention_for (cert_of written).mentions) hyps row) ≡ verdict (faults cert.divisor cert.mentions hyps row)
+verdict_is : (cert : Cert) (written : WrittenCert) (hyps : List Row) (row : Row) → cert_in cert ≡ cert_of written → verdict (faults (cert_of written).divisor (map mentioned (cert_of written).mentions) hyps row) ≡ verdict (faults cert.divisor cert.mentions hyps row)
 verdict_is cert written hyps row e =
-    ap (λ (c : operand.Cert). verdict (faults c.divisor (map mention_for c.mentions) hyps row)) (sym e) ∙ ap (λ (ms : List Mention). verdict (faults cert.divisor ms hyps row)) (mentions_back cert.mentions)
+    ap (λ (c : operand.Cert). verdict (faults c.divisor (map mentioned c.mentions) hyps row)) (sym e) ∙ ap (λ (ms : List Mention). verdict (faults cert.divisor ms hyps row)) (mentions_back cert.mentions)
 
-pub taken_ok : (used more : ℕ) (cert : Cert) (written : WrittenCert) (hyps : List Row) (row : Row) (x : Unit {0}) → cert_in cert ≡ cert_of written → Ok x ≡ verdict (faults cert.divisor cert.mentions hyps row) → more ≡ suc used → taken used (verdict (faults (cert_of written).divisor (map mention_for (cert_of written).mentions) hyps row)) ≡ Ok more
+pub taken_ok : (used more : ℕ) (cert : Cert) (written : WrittenCert) (hyps : List Row) (row : Row) (x : Unit {0}) → cert_in cert ≡ cert_of written → Ok x ≡ verdict (faults cert.divisor cert.mentions hyps row) → more ≡ suc used → taken used (verdict (faults (cert_of written).divisor (map mentioned (cert_of written).mentions) hyps row)) ≡ Ok more
 taken_ok used more cert written hyps row x e v m = ap (taken used) (verdict_is cert written hyps row e ∙ sym v) ∙ ap Ok (sym m)
 
-pub taken_err : (used : ℕ) (cert : Cert) (written : WrittenCert) (hyps : List Row) (row : Row) (fault : CertFault) → cert_in cert ≡ cert_of written → Err fault ≡ verdict (faults cert.divisor cert.mentions hyps row) → taken used (verdict (faults (cert_of written).divisor (map mention_for (cert_of written).mentions) hyps row)) ≡ Err (BranchNotProved used fault)
+pub taken_err : (used : ℕ) (cert : Cert) (written : WrittenCert) (hyps : List Row) (row : Row) (fault : CertFault) → cert_in cert ≡ cert_of written → Err fault ≡ verdict (faults cert.divisor cert.mentions hyps row) → taken used (verdict (faults (cert_of written).divisor (map mentioned (cert_of written).mentions) hyps row)) ≡ Err (BranchNotProved used fault)
 taken_err used cert written hyps row fault e v = ap (taken used) (verdict_is cert written hyps row e ∙ sym v)

@@ -9,8 +9,9 @@ use Rattle.farkas_check.specs.Rows.{value_at}
 use Rattle.linear_forms.specs.Terms.{sum_of, by_place, put_of}
 use Rattle.linear_forms.specs.Substitution.{Each, IsNormalPut, IsRefLike}
 use Rattle.linear_forms.proofs.Shorts.{all_left, all_right}
-use Rattle.protocols.specs.Duals.{dual_equation, dual_ref, branches_of}
-use Rattle.protocols.specs.Heads.{Head, HasHead, Concrete, concrete, argument, equation_of_end, way, on_way}
+use Rattle.protocols.specs.Duals.{dual_equation, branches_of}
+use Rattle.outline_language.specs.Equations.{dual_written, Concrete}
+use Rattle.protocols.specs.Heads.{Head, HasHead, concrete, argument, equation_of_end, way, on_way}
 use Rattle.protocols.specs.Unfolding.{Setting, asked_row, On, Follows, NamesOnly, branch_terms, HasArity, IsWellFormed, FollowsTheWays, var_at}
 use Rattle.protocols.proofs.Ways.{term_value_is, met, letter_is_way}
 
@@ -34,7 +35,7 @@ arity_of_dual protos Close h = h
 arity_of_dual protos Wait h = h
 arity_of_dual protos (Branch left right this other) h = by
   where
-    by : All (HasArity protos) (dual_ref this ∷ dual_ref other ∷ [])
+    by : All (HasArity protos) (dual_written this ∷ dual_written other ∷ [])
     by zero d b = h zero d b
     by (suc zero) d b = h (suc zero) d b
     by (suc (suc k)) d b = h (suc (suc k)) d b

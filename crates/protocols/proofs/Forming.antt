@@ -18,8 +18,9 @@ use Rattle.chan_syntax.specs.declared.resources.Shape.TheVariants as s
 use Rattle.chan_syntax.specs.declared.resources.Shape.TheBlock.{hidden-the_row-Res-0}
 use Rattle.outline_rules.specs.Naming.{int_var_of}
 use Rattle.outline_rules.specs.declared.naming.IntVar.{IntVar}
-use Rattle.protocols.specs.Duals.{Direction, Message, message_of, turned_if}
-use Rattle.protocols.specs.Heads.{proto_named, equation_of_end}
+use Rattle.protocols.specs.Duals.{Message, message_of, turned_if}
+use Rattle.outline_language.specs.Equations.{Direction, proto_named}
+use Rattle.protocols.specs.Heads.{equation_of_end}
 use Rattle.protocols.specs.Unfolding.{HasArity, HasFormed, IsMessageTooLarge}
 
 pub pair_of : (a b : Res) → shape_of (s.Pair a b) ≡ resource.Pair (res_of a) (res_of b)

@@ -5,7 +5,7 @@ use Rattle.core_language.specs.Names.{Ident}
 use Rattle.core_language.specs.Resources.{Proto}
 use Rattle.chan_syntax.specs.Reading.{letter_of}
 use Rattle.chan_syntax.specs.declared.operands.Letter.{Letter}
-use Rattle.protocols.specs.Heads.{proto_named}
+use Rattle.outline_language.specs.Equations.{proto_named}
 use Rattle.protocols.specs.Unfolding.{picked_at, goes_on, has_form}
 
 pub drop_next : {X : Type 0} (xs : List X) (i : ℕ) (d : X) → i < length xs → drop i xs ≡ get_or xs i d ∷ drop (i + 1) xs

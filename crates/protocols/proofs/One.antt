@@ -5,7 +5,8 @@ use Rattle.core_language.specs.Terms.{Term}
 use Rattle.core_language.specs.Resources.{Ref, Equation, Proto, Branch}
 use Rattle.core_language.specs.Operands.{Letter}
 use Rattle.protocols.specs.Duals.{Message, message_of}
-use Rattle.protocols.specs.Heads.{Concrete, concrete, argument, equation_of_end, proto_named, Head, way, on_way, HasEquation, HasHead}
+use Rattle.protocols.specs.Heads.{concrete, argument, equation_of_end, Head, way, on_way, HasEquation, HasHead}
+use Rattle.outline_language.specs.Equations.{Concrete, proto_named}
 
 one_proto : (o : Option Proto) (p q : Proto) → o ≡ Some p → o ≡ Some q → q ≡ p
 one_proto o p q e f = cc

@@ -18,9 +18,11 @@ use Rattle.chan_syntax.specs.Reading.{letter_of}
 use Rattle.chan_syntax.specs.declared.operands.Letter as written
 use Rattle.substitution.specs.declared.faults.SubstFault.{SubstFault}
 use Rattle.substitution.specs.declared.faults.SubstFault.TheVariants as cause
-use Rattle.protocols.specs.Duals.{dual_ref, dual_equation, turned_if, branches_of}
-use Rattle.protocols.specs.Heads.{proto_named, equation_of_end, on_way}
-use Rattle.protocols.specs.Unfolding.{Setting, Fault, asked_term, asked_row, asks_nothing, mention_for, taken, shown, obligation, IsFormed, Outcome, On, Stop, Steps, Follows, HasEquationAt, HasArity, AreFormed, picked, picked_at, goes_on, has_form, branch_terms, NamesOnly, Found, HasFormed, IsMessageTooLarge, Unfolds}
+use Rattle.protocols.specs.Duals.{dual_equation, turned_if, branches_of}
+use Rattle.outline_language.specs.Equations.{dual_written, proto_named}
+use Rattle.protocols.specs.Heads.{equation_of_end, on_way}
+use Rattle.protocols.specs.Unfolding.{Setting, Fault, asked_term, asked_row, taken, shown, obligation, IsFormed, Outcome, On, Stop, Steps, Follows, HasEquationAt, HasArity, AreFormed, picked, picked_at, goes_on, has_form, branch_terms, NamesOnly, Found, HasFormed, IsMessageTooLarge, Unfolds}
+use Rattle.outline_language.specs.Contexts.{asks_nothing, mentioned}
 use Rattle.protocols.specs.Unfolding as spec
 use Rattle.protocols.specs.FaultsOf.{IsFault, fault_of}
 use Rattle.protocols.specs.declared.faults.UnfoldFault.{UnfoldFault}
@@ -55,7 +57,7 @@ taken_other used (Err f) fault e = let is : spec.BranchNotProved used f ≡ faul
 
 shown_other : (hyps : List Row) (row : Row) (used : ℕ) (o : Option Cert) (fault : Fault) → shown hyps row used o ≡ Err fault → IsOther fault
 shown_other hyps row used None fault e = let is : spec.CertCount ≡ fault = cc in subst IsOther is tt
-shown_other hyps row used (Some cert) fault e = taken_other used (verdict (faults cert.divisor (map mention_for cert.mentions) hyps row)) fault e
+shown_other hyps row used (Some cert) fault e = taken_other used (verdict (faults cert.divisor (map mentioned cert.mentions) hyps row)) fault e
 
 obligation_other : (s : Setting) (used : ℕ) (row : Row) (fault : Fault) → obligation s used row ≡ Err fault → IsOther fault
 obligation_other s used row fault e = pick (asks_nothing row) e
@@ -120,7 +122,7 @@ goes_some again (Some r) e = refl
 pub letter_goes : (protos : List Proto) (letters : List written.Letter) (i : ℕ) (d : written.Letter) (name : Ident) → i < length letters → has_form protos (map letter_of (drop i letters)) name ≡ true → is_some (picked_at (letter_of (get_or letters i d)) (proto_named name protos)) ≡ true
 letter_goes protos letters i d name h e = goes_some (λ x. has_form protos (map letter_of (drop (i + 1) letters)) x) (picked_at (letter_of (get_or letters i d)) (proto_named name protos)) (sym (form_step protos letters i d name h) ∙ e)
 
-name_turned : (d : Bool) (letter : Letter) (this other : Ref) → (on_way letter (dual_ref this) (dual_ref other)).name ≡ (on_way letter this other).name
+name_turned : (d : Bool) (letter : Letter) (this other : Ref) → (on_way letter (dual_written this) (dual_written other)).name ≡ (on_way letter this other).name
 name_turned d First this other = refl
 name_turned d Second this other = refl
 
@@ -130,9 +132,9 @@ picked_name again true letter (Recv res next) left right this other h = absurd c
 picked_name again true letter Close left right this other h = absurd cc
 picked_name again true letter Wait left right this other h = absurd cc
 picked_name again true letter (Branch l r t o) left right this other h =
-    let first : dual_ref t ≡ this = cc in
-    let second : dual_ref o ≡ other = cc in
-    subst (λ (x : Ref). again (on_way letter t o).name ≡ again (on_way letter x other).name) first (subst (λ (y : Ref). again (on_way letter t o).name ≡ again (on_way letter (dual_ref t) y).name) second (ap again (sym (name_turned true letter t o))))
+    let first : dual_written t ≡ this = cc in
+    let second : dual_written o ≡ other = cc in
+    subst (λ (x : Ref). again (on_way letter t o).name ≡ again (on_way letter x other).name) first (subst (λ (y : Ref). again (on_way letter t o).name ≡ again (on_way letter (dual_written t) y).name) second (ap again (sym (name_turned true letter t o))))
 picked_name again false letter e left right this other h = ap (λ (x : Equation). goes_on again (picked letter x)) h
 
 -- and the rest of it has this form

@@ -22,7 +22,8 @@ use Rattle.linear_forms.proofs.Linear.{normal_value}
 use Rattle.linear_forms.proofs.Counts.{sum-less}
 use Rattle.linear_forms.proofs.Shorts.{all_left, all_right}
 use Rattle.protocols.specs.Heads.{argument, way}
-use Rattle.protocols.specs.Unfolding.{Setting, asked_row, asks_nothing, mention_for, taken, shown, obligation, NamesOnly}
+use Rattle.protocols.specs.Unfolding.{Setting, asked_row, taken, shown, obligation, NamesOnly}
+use Rattle.outline_language.specs.Contexts.{asks_nothing, mentioned}
 
 -- what a parameter has is the value of its argument
 pub argument_value : (at : Ident → ℤ) (params : List Ident) (ts : List Term) (x : Ident) → length ts ≡ length params → list_any (λ p. same p x) params ≡ true → named (put_of params ts) (pos 1) at x ≡ argument params (map (sum_of (pos 1) at) ts) x
@@ -73,15 +74,15 @@ at_most_zero values row h = pick (list_all (λ c. int_eq c (pos 0)) row.coeffici
 pub met : (s : Setting) (values : ℕ → ℤ) (used more : ℕ) (row : Row) → ((k : ℕ) (cert : Cert) → slice_get s.certs k ≡ Some cert → 1 ≤ cert.divisor) → All (λ r. value_at values r ≤ℤ pos 0) s.hyps → obligation s used row ≡ Ok more → value_at values row ≤ℤ pos 0
 met s values used more row divisors hyps h = pick (asks_nothing row) refl
   where
-    by : (cert : Cert) → slice_get s.certs used ≡ Some cert → (found : Result (Unit {0}) CertFault) → verdict (faults cert.divisor (map mention_for cert.mentions) s.hyps row) ≡ found → taken used found ≡ Ok more → value_at values row ≤ℤ pos 0
+    by : (cert : Cert) → slice_get s.certs used ≡ Some cert → (found : Result (Unit {0}) CertFault) → verdict (faults cert.divisor (map mentioned cert.mentions) s.hyps row) ≡ found → taken used found ≡ Ok more → value_at values row ≤ℤ pos 0
     by cert e (Err fault) v t = absurd cc
     by cert e (Ok x) v t =
-        let ok : IsOk (verdict (faults cert.divisor (map mention_for cert.mentions) s.hyps row)) = subst IsOk (sym v) refl in
-        entailed cert.divisor (map mention_for cert.mentions) s.hyps row (divisors used cert e) ((valid-ok cert.divisor (map mention_for cert.mentions) s.hyps row).0 ok) values hyps
+        let ok : IsOk (verdict (faults cert.divisor (map mentioned cert.mentions) s.hyps row)) = subst IsOk (sym v) refl in
+        entailed cert.divisor (map mentioned cert.mentions) s.hyps row (divisors used cert e) ((valid-ok cert.divisor (map mentioned cert.mentions) s.hyps row).0 ok) values hyps
 
     with_cert : (o : Option Cert) → slice_get s.certs used ≡ o → shown s.hyps row used o ≡ Ok more → value_at values row ≤ℤ pos 0
     with_cert None e t = absurd cc
-    with_cert (Some cert) e t = by cert e (verdict (faults cert.divisor (map mention_for cert.mentions) s.hyps row)) refl t
+    with_cert (Some cert) e t = by cert e (verdict (faults cert.divisor (map mentioned cert.mentions) s.hyps row)) refl t
 
     pick : (b : Bool) → asks_nothing row ≡ b → value_at values row ≤ℤ pos 0
     pick true e = at_most_zero values row e

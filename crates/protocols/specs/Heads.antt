@@ -5,16 +5,8 @@ use Rattle.core_language.specs.Terms.{Term}
 use Rattle.core_language.specs.Resources.{Ref, Equation, Proto, Branch}
 use Rattle.core_language.specs.Operands.{Letter, First, Second}
 use Rattle.linear_forms.specs.Terms.{sum_of}
+use Rattle.outline_language.specs.Equations.{Concrete, opposite, proto_named}
 use Rattle.protocols.specs.Duals.{Message, dual_equation, message_of, turned}
-
--- a protocol at integers, or its dual
-pub record Concrete : Type 0 where
-  pub dual : Bool
-  pub name : Ident
-  pub args : List ℤ
-
-abbrev pub dual_concrete : Concrete → Concrete
-dual_concrete e = record { dual = not e.dual; name = e.name; args = e.args }
 
 -- what a parameter has
 abbrev pub argument : List Ident → List ℤ → Ident → ℤ
@@ -25,11 +17,6 @@ argument (p ∷ ps) (k ∷ ks) x = if same p x then k else argument ps ks x
 -- a reference where names have these values
 abbrev pub concrete : (Ident → ℤ) → Ref → Concrete
 concrete at ref = record { dual = ref.dual; name = ref.name; args = map (sum_of (pos 1) at) ref.args }
-
--- the first protocol with this name
-abbrev pub proto_named : Ident → List Proto → Option Proto
-proto_named x [] = None
-proto_named x (p ∷ ps) = if same p.name x then Some p else proto_named x ps
 
 -- the equation of a protocol, or that of its dual
 abbrev pub equation_of_end : Bool → Proto → Equation
@@ -67,7 +54,7 @@ HasHead protos e (letter ∷ ways) head =
 
 -- the other end has the other direction and the same message, at all arguments
 abbrev pub DualTurnsTheHead : Type 0
-DualTurnsTheHead = (protos : List Proto) (e : Concrete) (ways : List Letter) (head : Head) → HasHead protos e ways head → HasHead protos (dual_concrete e) ways (turned_head head)
+DualTurnsTheHead = (protos : List Proto) (e : Concrete) (ways : List Letter) (head : Head) → HasHead protos e ways head → HasHead protos (opposite e) ways (turned_head head)
 
 -- an end has one head, and comes to it in one way
 abbrev pub HeadIsOne : Type 0

@@ -1,7 +1,8 @@
 -- The head of an end as the definitions have it.
 use Rattle.core_language.specs.Resources as resource
 use Rattle.chan_syntax.specs.Reading.{res_of}
-use Rattle.protocols.specs.Duals.{Direction, Sends, Receives, Message}
+use Rattle.protocols.specs.Duals.{Message}
+use Rattle.outline_language.specs.Equations.{Direction, Sends, Receives}
 use Rattle.protocols.specs.declared.messages.Head.{Head}
 use Rattle.protocols.specs.declared.messages.Head.TheVariants.{Send, Recv}
 

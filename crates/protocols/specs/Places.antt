@@ -10,6 +10,7 @@ use Rattle.chan_syntax.specs.declared.operands.Letter.TheVariants.{Left, Right}
 use Rattle.chan_syntax.specs.declared.linear.Bound.{Bound}
 use Rattle.chan_syntax.specs.declared.resources.Ref.{Ref}
 use Rattle.chan_syntax.specs.declared.resources.Res.{Res}
+use Rattle.chan_syntax.specs.declared.resources.Shape.{Shape}
 use Rattle.chan_syntax.specs.declared.resources.Equation.{Equation}
 use Rattle.chan_syntax.specs.declared.resources.Equation.TheVariants as equation
 use Rattle.chan_syntax.specs.declared.resources.Proto.{Proto}
@@ -41,11 +42,15 @@ other_proto proto = record { name = proto.name; name_span = proto.name_span; par
 abbrev pub bare_bound : Bound
 bare_bound = record { names = []; names_spans = []; limits = [] }
 
+-- a shape, and the end at which the receiver goes on
+abbrev pub pieces_of_pair : List Ident → Shape → Ref → List Piece
+pieces_of_pair binders shape next = (Binders [] ∷ pieces_of_shape binders shape) ++ (Binders [] ∷ pieces_of_ref binders next)
+
 -- a resource, with the end at which the receiver goes on where there is one
 abbrev pub pieces_with_end : Res → Option Ref → List Piece
 pieces_with_end res None = pieces_of_res [] res
 pieces_with_end res (Some next) =
-    pieces_of_bound [] res.bound ++ (Binders [] ∷ pieces_of_shape (res.bound.names ++ []) res.shape) ++ (Binders [] ∷ pieces_of_ref (res.bound.names ++ []) next)
+    pieces_of_bound [] res.bound ++ pieces_of_pair (res.bound.names ++ []) res.shape next
 
 -- the message of an equation that isn't `if`
 abbrev pub pieces_of_message : Equation → Option (List Piece)

@@ -12,11 +12,13 @@ use Rattle.farkas_check.specs.declared.cert.Mention.{Mention}
 use Rattle.farkas_check.specs.declared.cert.CertFault.{CertFault}
 use Rattle.farkas_check.specs.Certificates.{faults, verdict}
 use Rattle.farkas_check.specs.Rows.{value_at}
+use Rattle.outline_language.specs.Contexts.{asks_nothing, mentioned}
 use Rattle.linear_forms.specs.Terms.{IntVar, by_place, normal_form, less, one, put_of}
 use Rattle.linear_forms.specs.Normal.{row_fits, names_of}
 use Rattle.linear_forms.specs.Substitution.{Var, Free, Inside, sum_under, Scoped, Fits, AnyNames, OnTerms, IsNormalPut, IsRefLike, IsResLike, IsSubst, AllFit, terms_of_res}
-use Rattle.protocols.specs.Duals.{Message, Direction, message_of, branches_of}
-use Rattle.protocols.specs.Heads.{Head, HasHead, argument, concrete, proto_named, equation_of_end, on_way}
+use Rattle.protocols.specs.Duals.{Message, message_of, branches_of}
+use Rattle.outline_language.specs.Equations.{Direction, proto_named}
+use Rattle.protocols.specs.Heads.{Head, HasHead, argument, concrete, equation_of_end, on_way}
 
 -- why an end isn't followed, or its message not formed
 pub data Fault : Type 0 where
@@ -70,13 +72,6 @@ asked_term Second left right = one ∷ less right left
 abbrev pub asked_row : Setting → List IntVar → Letter → Term → Term → Row
 asked_row s put letter left right = normal_form (record { ints = s.ints; vars = put }) (asked_term letter left right)
 
--- a constant at most 0
-abbrev pub asks_nothing : Row → Bool
-asks_nothing row = list_all (λ c. int_eq c (pos 0)) row.coefficients && int_le row.constant (pos 0)
-
-abbrev pub mention_for : operand.Mention → Mention
-mention_for m = record { factor = m.factor; index = m.index }
-
 -- how many certificates are taken after one was tried, where so many were taken before
 abbrev pub taken : ℕ → Result (Unit {0}) CertFault → Result ℕ Fault
 taken used (Ok _) = Ok (suc used)
@@ -84,7 +79,7 @@ taken used (Err fault) = Err (BranchNotProved used fault)
 
 abbrev pub shown : List Row → Row → ℕ → Option Cert → Result ℕ Fault
 shown hyps row used None = Err CertCount
-shown hyps row used (Some cert) = taken used (verdict (faults cert.divisor (map mention_for cert.mentions) hyps row))
+shown hyps row used (Some cert) = taken used (verdict (faults cert.divisor (map mentioned cert.mentions) hyps row))
 
 abbrev pub obligation : Setting → ℕ → Row → Result ℕ Fault
 obligation s used row = if asks_nothing row then Ok used else shown s.hyps row used (slice_get s.certs used)

@@ -1,19 +1,19 @@
 //! What a letter of a path asks for, and whether it is shown.
-ghost use Rattle.std.specs.Prelude.{◌≡◌, ◌++◌, ◌∷◌, [], suc, pos, int_le, true, false, All, length, map, Some, None, Ok, Err, OnOk, IfOk, IfErr};
+ghost use Rattle.std.specs.Prelude.{◌≡◌, ◌++◌, ◌∷◌, [], suc, pos, int_le, true, false, All, length, map, Some, Ok, Err, OnOk, IfOk, IfErr};
 ghost use Rattle.std.specs.List.{list_all};
 ghost use Rattle.std.specs.Ordering.{int_eq};
 ghost use Rattle.farkas_check.specs.Rows.{IsNarrow};
 ghost use Rattle.linear_forms.specs.Normal.{not_int, row_fits};
-ghost use Rattle.linear_forms.specs.Substitution.{Fits};
 ghost use Rattle.linear_forms.specs.Terms.{negated, less, one, put_of, normal_form};
 ghost use Rattle.chan_syntax.specs.Bounds.{IsBounded};
 ghost use Rattle.chan_syntax.specs.Reading.{part_of, term_of, letter_of, cert_of};
+ghost use Rattle.outline_language.specs.Contexts.{asks_nothing};
 ghost use Rattle.outline_rules.specs.Naming.{int_names_of, int_var_of};
 ghost use Rattle.substitution.specs.declared.faults.SubstFault.TheVariants as cause;
 ghost use Rattle.protocols.specs.Unfolding as spec;
-ghost use Rattle.protocols.specs.Unfolding.{NamesOnly, IsFormed};
+ghost use Rattle.protocols.specs.Unfolding.{NamesOnly};
 ghost use Rattle.protocols.specs.FaultsOf.{IsFault};
-ghost use Rattle.protocols.specs.Settings.{setting_of, IsReady};
+ghost use Rattle.protocols.specs.Settings.{setting_of, IsReady, FitsAs, asked_as, IsFormedAs};
 
 use crate::faults::UnfoldFault;
 use chan_base::Memory;
@@ -156,9 +156,9 @@ fn asked_row(
     requires arity { length args.now ≡ length params.now }
     requires left { NamesOnly params.now (term_of left.now) }
     requires right { NamesOnly params.now (term_of right.now) }
-    ensures row { IfOk result (λ row. row ≡ spec.asked_row (setting_of setting.now) (put_of params.now (map term_of args.now)) (letter_of letter) (term_of left.now) (term_of right.now)) }
+    ensures row { IfOk result (λ row. row ≡ asked_as setting.now params.now args.now letter left.now right.now) }
     ensures fits { IfOk result (λ row. row_fits row ≡ true) }
-    ensures err { IfErr result (λ fault. fault ≡ cause.TooLarge → row_fits (spec.asked_row (setting_of setting.now) (put_of params.now (map term_of args.now)) (letter_of letter) (term_of left.now) (term_of right.now)) ≡ false) }
+    ensures err { IfErr result (λ why. why ≡ cause.TooLarge → row_fits (asked_as setting.now params.now args.now letter left.now right.now) ≡ false) }
 {
     let names = context_of(alloc, setting, params, args)?;
     let term = asked_term(alloc, letter, left, right)?;
@@ -183,9 +183,9 @@ fn form_terms(
     right: &Term,
 ) -> Result<(), SubstFault>
     requires { length args.now ≡ length params.now }
-    ensures left { OnOk result (Fits (put_of params.now (map term_of args.now)) [] (term_of left.now)) }
-    ensures right { OnOk result (Fits (put_of params.now (map term_of args.now)) [] (term_of right.now)) }
-    ensures err { IfErr result (λ fault. fault ≡ cause.TooLarge → Fits (put_of params.now (map term_of args.now)) [] (term_of left.now) → Fits (put_of params.now (map term_of args.now)) [] (term_of right.now) → ⊥) }
+    ensures left { OnOk result (FitsAs params.now args.now left.now) }
+    ensures right { OnOk result (FitsAs params.now args.now right.now) }
+    ensures err { IfErr result (λ fault. fault ≡ cause.TooLarge → FitsAs params.now args.now left.now → FitsAs params.now args.now right.now → ⊥) }
 {
     let terms = both(alloc, left, right)?;
     subst_terms(alloc, &terms, params, args)?;
@@ -205,9 +205,9 @@ pub(crate) fn formed_row(
     requires arity { length args.now ≡ length params.now }
     requires left { NamesOnly params.now (term_of left.now) }
     requires right { NamesOnly params.now (term_of right.now) }
-    ensures row { IfOk result (λ row. row ≡ spec.asked_row (setting_of setting.now) (put_of params.now (map term_of args.now)) (letter_of letter) (term_of left.now) (term_of right.now)) }
-    ensures formed { OnOk result (IsFormed (setting_of setting.now) (put_of params.now (map term_of args.now)) (letter_of letter) (term_of left.now) (term_of right.now)) }
-    ensures err { IfErr result (λ fault. fault ≡ cause.TooLarge → IsFormed (setting_of setting.now) (put_of params.now (map term_of args.now)) (letter_of letter) (term_of left.now) (term_of right.now) → ⊥) }
+    ensures row { IfOk result (λ row. row ≡ asked_as setting.now params.now args.now letter left.now right.now) }
+    ensures formed { OnOk result (IsFormedAs setting.now params.now args.now letter left.now right.now) }
+    ensures err { IfErr result (λ fault. fault ≡ cause.TooLarge → IsFormedAs setting.now params.now args.now letter left.now right.now → ⊥) }
 {
     form_terms(alloc, params, args, left, right)?;
     let row = asked_row(alloc, setting, params, args, letter, left, right)?;
@@ -228,7 +228,7 @@ fn is_low(number: i64) -> bool
 
 /// Whether a row is a constant at most 0.
 fn asks_nothing(row: &Row) -> bool
-    ensures { result ≡ spec.asks_nothing row.now }
+    ensures { result ≡ asks_nothing row.now }
 {
     are_zero(row.coefficients.as_slice()) && is_low(row.constant)
 }

@@ -1,10 +1,12 @@
 //! Duals of references and of protocols.
 ghost use Rattle.std.specs.Prelude.{◌≡◌, IfOk};
 ghost use Rattle.std.specs.Option.{option_map};
-ghost use Rattle.core_language.specs.Resources.{Send, Recv, Branch};
+ghost use Rattle.core_language.specs.Resources.{Send, Recv};
 ghost use Rattle.chan_syntax.specs.declared.resources.Equation.TheVariants as form;
 ghost use Rattle.chan_syntax.specs.Reading.{term_of, ref_of, res_of, equation_of, proto_of};
+ghost use Rattle.outline_language.specs.Equations.{dual_written};
 ghost use Rattle.protocols.specs.Duals as spec;
+ghost use Rattle.protocols.specs.Settings.{branch_of};
 ghost use Rattle.protocols.specs.Places.{other_end, other_equation, other_proto};
 
 use chan_base::Memory;
@@ -12,7 +14,7 @@ use chan_syntax::{Equation, Proto, Ref, Res, Term, copy_names, copy_spans};
 use std::alloc::Global;
 
 pub fn dual_ref(alloc: Global, from: &Ref) -> Result<Ref, Memory>
-    ensures dual { IfOk result (λ dual. ref_of dual ≡ spec.dual_ref (ref_of from.now)) }
+    ensures dual { IfOk result (λ dual. ref_of dual ≡ dual_written (ref_of from.now)) }
     ensures places { IfOk result (λ dual. dual ≡ other_end from.now) }
 {
     let mut dual = from.copy(alloc)?;
@@ -22,7 +24,7 @@ pub fn dual_ref(alloc: Global, from: &Ref) -> Result<Ref, Memory>
 
 /// The dual of what follows a message, where something does.
 fn dual_next(alloc: Global, next: &Option<Ref>) -> Result<Option<Ref>, Memory>
-    ensures dual { IfOk result (λ dual. option_map ref_of dual ≡ option_map spec.dual_ref (option_map ref_of next.now)) }
+    ensures dual { IfOk result (λ dual. option_map ref_of dual ≡ option_map dual_written (option_map ref_of next.now)) }
     ensures places { IfOk result (λ dual. dual ≡ option_map other_end next.now) }
 {
     match next {
@@ -54,7 +56,7 @@ fn dual_branch(
     this: &Ref,
     other: &Ref,
 ) -> Result<Equation, Memory>
-    ensures dual { IfOk result (λ dual. equation_of dual ≡ spec.dual_equation (Branch (term_of left.now) (term_of right.now) (ref_of this.now) (ref_of other.now))) }
+    ensures dual { IfOk result (λ dual. equation_of dual ≡ spec.dual_equation (branch_of left.now right.now this.now other.now)) }
     ensures places { IfOk result (λ dual. dual ≡ other_equation (form.Branch left.now right.now this.now other.now)) }
 {
     Ok(Equation::Branch(

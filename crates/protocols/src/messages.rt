@@ -2,16 +2,17 @@
 ghost use Rattle.std.specs.Prelude.{◌≡◌, ◌++◌, ◌∷◌, [], List, true, length, map, Some, IfOk, IfErr};
 ghost use Rattle.std.specs.Option.{option_map};
 ghost use Rattle.core_language.specs.Names.{Ident as Name};
-ghost use Rattle.core_language.specs.Resources.{Pair, Binds, End};
-ghost use Rattle.linear_forms.specs.Terms.{put_of};
+ghost use Rattle.core_language.specs.Resources.{Pair, End};
+ghost use Rattle.outline_language.specs.Equations.{no_bound, bare, with_end, dual_written, proto_named};
 ghost use Rattle.linear_forms.specs.Substitution.{AllFit, IsSubst, terms_of_res};
 ghost use Rattle.chan_syntax.specs.Reading.{term_of, ref_of, bound_of, shape_of, res_of, equation_of, proto_of};
 ghost use Rattle.substitution.specs.declared.faults.SubstFault.TheVariants as cause;
 ghost use Rattle.protocols.specs.Duals as duals;
 ghost use Rattle.protocols.specs.Heads as heads;
 ghost use Rattle.protocols.specs.Unfolding.{stops, HasArity, HasFormed, IsMessageTooLarge};
+ghost use Rattle.protocols.specs.Settings.{put_as};
 ghost use Rattle.protocols.specs.HeadsOf.{message_in, direction_of, resource_of};
-ghost use Rattle.protocols.specs.Places.{bare_bound, other_end, pieces_with_end, pieces_of_message, pieces_of_head, IsHeadPlaced};
+ghost use Rattle.protocols.specs.Places.{bare_bound, other_end, pieces_of_pair, pieces_with_end, pieces_of_message, pieces_of_head, IsHeadPlaced};
 ghost use Rattle.substitution.specs.Places.{Binders, ArePlaced, pieces_of_ref, pieces_of_shape, pieces_of_res};
 
 use crate::duals::dual_equation;
@@ -30,7 +31,7 @@ pub enum Head {
 }
 
 fn no_bound(alloc: Global) -> Bound
-    ensures read { bound_of result ≡ duals.no_bound }
+    ensures read { bound_of result ≡ no_bound }
     ensures places { result ≡ bare_bound }
 {
     Bound {
@@ -41,7 +42,7 @@ fn no_bound(alloc: Global) -> Bound
 }
 
 fn bare(alloc: Global, shape: Shape) -> Res
-    ensures read { res_of result ≡ Binds duals.no_bound (shape_of shape) }
+    ensures read { res_of result ≡ bare (shape_of shape) }
     ensures places { (binders : List Name) → pieces_of_res binders result ≡ Binders [] ∷ pieces_of_shape binders shape }
 {
     Res {
@@ -53,8 +54,8 @@ fn bare(alloc: Global, shape: Shape) -> Res
 /// A pair of a shape and the end at which the receiver goes on.
 #[tactic(auto, using(crate::proofs::Forming::pair_of))]
 fn paired(alloc: Global, shape: Shape, next: Ref) -> Result<Shape, Memory>
-    ensures read { IfOk result (λ pair. shape_of pair ≡ Pair (Binds duals.no_bound (shape_of shape)) (Binds duals.no_bound (End (ref_of next)))) }
-    ensures places { IfOk result (λ pair. (binders : List Name) → pieces_of_shape binders pair ≡ (Binders [] ∷ pieces_of_shape binders shape) ++ (Binders [] ∷ pieces_of_ref binders next)) }
+    ensures read { IfOk result (λ pair. shape_of pair ≡ Pair (bare (shape_of shape)) (bare (End (ref_of next)))) }
+    ensures places { IfOk result (λ pair. (binders : List Name) → pieces_of_shape binders pair ≡ pieces_of_pair binders shape next) }
 {
     let first = Boxed::new(alloc, bare(alloc, shape))?;
     let second = Boxed::new(alloc, bare(alloc, Shape::End(next)))?;
@@ -63,7 +64,7 @@ fn paired(alloc: Global, shape: Shape, next: Ref) -> Result<Shape, Memory>
 
 /// A resource, with the end at which the receiver goes on where there is one.
 fn with_end(alloc: Global, res: Res, next: Option<Ref>) -> Result<Res, Memory>
-    ensures read { IfOk result (λ all. res_of all ≡ duals.with_end (res_of res) (option_map ref_of next)) }
+    ensures read { IfOk result (λ all. res_of all ≡ with_end (res_of res) (option_map ref_of next)) }
     ensures places { IfOk result (λ all. pieces_of_res [] all ≡ pieces_with_end res next) }
 {
     match next {
@@ -91,7 +92,7 @@ fn equation_of_end(alloc: Global, dual: bool, proto: &Proto) -> Result<Equation,
 
 /// What follows a message, with the other mark.
 fn other_next(next: Option<Ref>) -> Option<Ref>
-    ensures dual { option_map ref_of result ≡ option_map duals.dual_ref (option_map ref_of next) }
+    ensures dual { option_map ref_of result ≡ option_map dual_written (option_map ref_of next) }
     ensures places { result ≡ option_map other_end next }
 {
     match next {
@@ -125,8 +126,8 @@ fn message_of(alloc: Global, equation: Equation) -> Result<Option<Head>, Memory>
 fn put_in(alloc: Global, res: Res, params: &Idents, args: &Terms) -> Result<Res, SubstFault>
     requires { length args.now ≡ length params.now }
     ensures places { IfOk result (λ put. ArePlaced params.now args.now (pieces_of_res [] res) (pieces_of_res [] put)) }
-    ensures ok { IfOk result (λ put. IsSubst (put_of params.now (map term_of args.now)) (res_of res) (res_of put)) }
-    ensures err { IfErr result (λ fault. fault ≡ cause.TooLarge → AllFit (put_of params.now (map term_of args.now)) (terms_of_res [] (res_of res)) → ⊥) }
+    ensures ok { IfOk result (λ put. IsSubst (put_as params.now args.now) (res_of res) (res_of put)) }
+    ensures err { IfErr result (λ fault. fault ≡ cause.TooLarge → AllFit (put_as params.now args.now) (terms_of_res [] (res_of res)) → ⊥) }
 {
     subst(alloc, &res, params, args)
 }
@@ -136,8 +137,8 @@ fn formed(alloc: Global, message: Head, params: &Idents, args: &Terms) -> Result
     requires { length args.now ≡ length params.now }
     ensures direction { IfOk result (λ head. direction_of head ≡ direction_of message) }
     ensures places { IfOk result (λ head. ArePlaced params.now args.now (pieces_of_head message) (pieces_of_head head)) }
-    ensures res { IfOk result (λ head. IsSubst (put_of params.now (map term_of args.now)) (resource_of message) (resource_of head)) }
-    ensures err { IfErr result (λ fault. fault ≡ cause.TooLarge → AllFit (put_of params.now (map term_of args.now)) (terms_of_res [] (resource_of message)) → ⊥) }
+    ensures res { IfOk result (λ head. IsSubst (put_as params.now args.now) (resource_of message) (resource_of head)) }
+    ensures err { IfErr result (λ fault. fault ≡ cause.TooLarge → AllFit (put_as params.now args.now) (terms_of_res [] (resource_of message)) → ⊥) }
 {
     match message {
         Head::Send(res) => {
@@ -153,7 +154,7 @@ fn formed(alloc: Global, message: Head, params: &Idents, args: &Terms) -> Result
 
 /// The head of an end whose equation isn't `if`.
 pub(crate) fn head_of(alloc: Global, protos: &[Proto], end: &Ref) -> Result<Head, SubstFault>
-    requires stops { stops (heads.proto_named end.now.name (map proto_of protos.now)) ≡ true }
+    requires stops { stops (proto_named end.now.name (map proto_of protos.now)) ≡ true }
     requires arity { HasArity (map proto_of protos.now) (ref_of end.now) }
     ensures ok { IfOk result (λ head. HasFormed (map proto_of protos.now) (ref_of end.now) (direction_of head) (resource_of head)) }
     ensures places { IfOk result (IsHeadPlaced protos.now end.now) }

@@ -1,17 +1,14 @@
 //! Ends that are followed past `if` equations, to the message that they have there.
 ghost use Rattle.std.specs.Prelude.{◌≡◌, ◌≤◌, [], true, All, length, map, is_some, Ok, Err, OnOk, IfOk, IfErr};
 ghost use Rattle.farkas_check.specs.Rows.{IsNarrow};
-ghost use Rattle.linear_forms.specs.Terms.{put_of};
-ghost use Rattle.linear_forms.specs.Substitution.{Fits, IsNormalPut, IsRefLike};
 ghost use Rattle.chan_syntax.specs.Bounds.{IsBounded};
 ghost use Rattle.chan_syntax.specs.Reading.{term_of, ref_of, proto_of, letter_of, cert_of};
 ghost use Rattle.substitution.specs.declared.faults.SubstFault.TheVariants as cause;
-ghost use Rattle.protocols.specs.Heads as heads;
-ghost use Rattle.protocols.specs.Duals.{turned_if};
+ghost use Rattle.outline_language.specs.Equations.{proto_named};
 ghost use Rattle.protocols.specs.Unfolding as spec;
-ghost use Rattle.protocols.specs.Unfolding.{On, Stop, Steps, Follows, Unfolds, HasArity, AreFormed, IsTheHead};
+ghost use Rattle.protocols.specs.Unfolding.{On, Stop, HasArity, AreFormed};
 ghost use Rattle.protocols.specs.FaultsOf.{IsFault};
-ghost use Rattle.protocols.specs.Settings.{under, setting_of, IsReady};
+ghost use Rattle.protocols.specs.Settings.{under, setting_of, IsReady, ArgumentsFit, IsTheHeadAs, picked_in, IsNext, StepsAs, FollowsAs, UnfoldsAs};
 ghost use Rattle.protocols.specs.Answers.{found_of};
 ghost use Rattle.protocols.specs.Places.{LeadsTo, LeadTo, IsPlacedHead};
 ghost use Rattle.substitution.specs.Places.{ArePlaced, pieces_of_ref};
@@ -44,8 +41,8 @@ struct Followed {
 fn next_end(alloc: Global, proto: &Proto, end: &Ref, picked: &Ref) -> Result<Ref, SubstFault>
     requires { length end.now.args ≡ length proto.now.params }
     ensures places { IfOk result (λ next. ArePlaced proto.now.params end.now.args (pieces_of_ref [] picked.now) (pieces_of_ref [] next)) }
-    ensures ok { IfOk result (λ next. IsRefLike (IsNormalPut (put_of proto.now.params (map term_of end.now.args))) [] [] (turned_if end.now.dual (ref_of picked.now)) (ref_of next)) }
-    ensures err { IfErr result (λ fault. fault ≡ cause.TooLarge → All (Fits (put_of proto.now.params (map term_of end.now.args)) []) (map term_of picked.now.args) → ⊥) }
+    ensures ok { IfOk result (λ next. IsNext proto.now.params end.now picked.now next) }
+    ensures err { IfErr result (λ fault. fault ≡ cause.TooLarge → ArgumentsFit proto.now.params end.now picked.now → ⊥) }
 {
     let args = subst_terms(alloc, &picked.args, &proto.params, &end.args)?;
     Ok(Ref {
@@ -66,10 +63,10 @@ fn step(
 ) -> Result<Followed, UnfoldFault>
     requires ready { IsReady setting.now }
     requires arity { HasArity (setting_of setting.now).protos (ref_of at.now.end) }
-    requires goes { is_some (spec.picked_at (letter_of letter) (heads.proto_named at.now.end.name (setting_of setting.now).protos)) ≡ true }
+    requires goes { is_some (picked_in setting.now letter at.now.end.name) ≡ true }
     ensures places { IfOk result (λ next. LeadsTo setting.now.protos.now letter at.now.end next.end) }
-    ensures ok { IfOk result (λ next. Steps (setting_of setting.now) at.now.used (ref_of at.now.end) (letter_of letter) (On (ref_of next.end) next.used)) }
-    ensures err { IfErr result (IsFault (λ fault. Steps (setting_of setting.now) at.now.used (ref_of at.now.end) (letter_of letter) (Stop fault))) }
+    ensures ok { IfOk result (λ next. StepsAs setting.now at.now.used at.now.end letter (On (ref_of next.end) next.used)) }
+    ensures err { IfErr result (IsFault (λ fault. StepsAs setting.now at.now.used at.now.end letter (Stop fault))) }
 {
     let Some(proto) = proto_named(setting.protos.as_slice(), &at.end.name) else {
         unreachable!();
@@ -102,10 +99,10 @@ fn follow(
     requires arity { HasArity (setting_of setting.now).protos (ref_of from.now) }
     requires form { spec.has_form (setting_of setting.now).protos (map letter_of path.now) from.now.name ≡ true }
     ensures places { IfOk result (λ last. LeadTo setting.now.protos.now path.now from.now last.end) }
-    ensures ok { IfOk result (λ last. Follows (setting_of setting.now) 0 (ref_of from.now) (map letter_of path.now) (On (ref_of last.end) last.used)) }
+    ensures ok { IfOk result (λ last. FollowsAs setting.now from.now path.now (On (ref_of last.end) last.used)) }
     ensures arity { IfOk result (λ last. HasArity (setting_of setting.now).protos (ref_of last.end)) }
-    ensures stops { IfOk result (λ last. spec.stops (heads.proto_named last.end.name (setting_of setting.now).protos) ≡ true) }
-    ensures err { IfErr result (IsFault (λ fault. Follows (setting_of setting.now) 0 (ref_of from.now) (map letter_of path.now) (Stop fault))) }
+    ensures stops { IfOk result (λ last. spec.stops (proto_named last.end.name (setting_of setting.now).protos) ≡ true) }
+    ensures err { IfErr result (IsFault (λ fault. FollowsAs setting.now from.now path.now (Stop fault))) }
 {
     let mut at = Followed {
         end: from.copy(alloc)?,
@@ -133,10 +130,10 @@ pub fn unfold(
     requires certs { All IsBounded certs.now }
     requires hyps { All IsNarrow hyps.now }
     requires ints { length names.now.ints ≤ 256 }
-    ensures ok { IfOk result (λ unfolded. Unfolds (under protos.now names.now.ints hyps.now certs.now) (ref_of from.now) (map letter_of path.now) (Ok (found_of unfolded))) }
-    ensures err { IfErr result (IsFault (λ fault. Unfolds (under protos.now names.now.ints hyps.now certs.now) (ref_of from.now) (map letter_of path.now) (Err fault))) }
+    ensures ok { IfOk result (λ unfolded. UnfoldsAs (under protos.now names.now.ints hyps.now certs.now) from.now path.now (Ok (found_of unfolded))) }
+    ensures err { IfErr result (IsFault (λ fault. UnfoldsAs (under protos.now names.now.ints hyps.now certs.now) from.now path.now (Err fault))) }
     ensures places { IfOk result (λ unfolded. IsPlacedHead protos.now from.now path.now unfolded.head) }
-    ensures head { IfOk result (λ unfolded. IsTheHead (under protos.now names.now.ints hyps.now certs.now) (ref_of from.now) (map letter_of path.now) (found_of unfolded)) }
+    ensures head { IfOk result (λ unfolded. IsTheHeadAs (under protos.now names.now.ints hyps.now certs.now) from.now path.now (found_of unfolded)) }
 {
     if !has_form(protos.as_slice(), path.as_slice(), &from.name) {
         return Err(UnfoldFault::WrongForm);

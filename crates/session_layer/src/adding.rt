@@ -1,6 +1,6 @@
 //! Nodes that are added one by one. The number of a node is known when it is named, since those that it
 //! names are there before it.
-ghost use Rattle.std.specs.Prelude.{◌≡◌, List, ◌+◌, ◌<◌, ◌^◌, ◌∷◌, [], length, map, IfOk};
+ghost use Rattle.std.specs.Prelude.{◌≡◌, List, ◌+◌, ◌<◌, ◌^◌, ◌++◌, ◌∷◌, [], length, map, IfOk, OnOk};
 ghost use Rattle.chan_syntax.specs.declared.surface_tree.Last.TheVariants as last;
 ghost use Rattle.session_layer.specs.Lowering.{EndsAt};
 ghost use Rattle.session_layer.specs.Rooted.{Adds, Joins, JoinsIn, JoinsArms};
@@ -14,15 +14,19 @@ use std::alloc::Global;
 /// Fewer than 2^32 nodes have numbers.
 const MAX_NODES: usize = 4294967295;
 
-/// The number of the node that is added next.
-pub(crate) fn free_number(nodes: &Nodes) -> Result<u32, Memory>
-    ensures number { IfOk result (λ n. n ≡ length nodes.now) }
+/// Adds a node, and gives its number. A table has room for fewer than 2^32 nodes, since a number names
+/// each of them: there it is full, as a list is at the greatest size of an allocation.
+pub(crate) fn push_node(nodes: &mut Nodes, node: Node) -> Result<u32, Memory>
+    ensures number { IfOk result (λ n. n ≡ length nodes.old) }
     ensures few { IfOk result (λ n. n + 1 < 2 ^ 32) }
+    ensures added { OnOk result (nodes.new ≡ nodes.old ++ node ∷ []) }
 {
     if nodes.len() >= MAX_NODES {
         return Err(Memory);
     }
-    Ok(nodes.len() as u32)
+    let number = nodes.len() as u32;
+    nodes.push(node)?;
+    Ok(number)
 }
 
 pub(crate) fn add_ret(
@@ -35,10 +39,9 @@ pub(crate) fn add_ret(
     ensures adds { IfOk result (Adds nodes.old nodes.new []) }
     ensures body { IfOk result (EndsAt nodes.new (last.Ret value.now proof.now span)) }
 {
-    let number = free_number(nodes)?;
     let value = value.copy(alloc)?;
     let proof = proof.copy(alloc)?;
-    nodes.push(Node::Ret { value, proof, span })?;
+    let number = push_node(nodes, Node::Ret { value, proof, span })?;
     Ok(number)
 }
 
@@ -54,7 +57,6 @@ pub(crate) fn add_tail(
     ensures adds { IfOk result (Adds nodes.old nodes.new []) }
     ensures body { IfOk result (EndsAt nodes.new (last.Tail func.now func_span values.now proof.now span)) }
 {
-    let number = free_number(nodes)?;
     let (func, values, proof) = called(alloc, func, values, proof)?;
     let node = Node::Tail {
         func,
@@ -63,7 +65,7 @@ pub(crate) fn add_tail(
         proof,
         span,
     };
-    nodes.push(node)?;
+    let number = push_node(nodes, node)?;
     Ok(number)
 }
 
@@ -79,7 +81,6 @@ pub(crate) fn add_if(
     ensures adds { IfOk result (Joins nodes.old nodes.new (bodies.0 ∷ bodies.1 ∷ [])) }
     ensures body { IfOk result (JoinsIn (λ a b. last.If left.now right.now a b span) nodes.old nodes.new bodies) }
 {
-    let number = free_number(nodes)?;
     let left = left.copy(alloc)?;
     let right = right.copy(alloc)?;
     let node = Node::If {
@@ -89,7 +90,7 @@ pub(crate) fn add_if(
         no: bodies.1,
         span,
     };
-    nodes.push(node)?;
+    let number = push_node(nodes, node)?;
     Ok(number)
 }
 
@@ -104,7 +105,6 @@ pub(crate) fn add_match(
     ensures adds { IfOk result (Joins nodes.old nodes.new (map (λ a. a.next) arms)) }
     ensures body { IfOk result (JoinsArms (λ blocks. last.Match name.now name_span blocks span) nodes.old nodes.new arms) }
 {
-    let number = free_number(nodes)?;
     let name = name.copy()?;
     let node = Node::Match {
         name,
@@ -112,7 +112,7 @@ pub(crate) fn add_match(
         arms,
         span,
     };
-    nodes.push(node)?;
+    let number = push_node(nodes, node)?;
     Ok(number)
 }
 
@@ -125,8 +125,7 @@ pub(crate) fn add_absurd(
     ensures adds { IfOk result (Adds nodes.old nodes.new []) }
     ensures body { IfOk result (EndsAt nodes.new (last.Absurd proof.now span)) }
 {
-    let number = free_number(nodes)?;
     let proof = proof.copy(alloc)?;
-    nodes.push(Node::Absurd { proof, span })?;
+    let number = push_node(nodes, Node::Absurd { proof, span })?;
     Ok(number)
 }

@@ -5,7 +5,7 @@ ghost use Rattle.core_trees.specs.Core.{is_core_stmt, is_core_last, is_core_bloc
 ghost use Rattle.session_layer.specs.Lowering.{is_end, StmtsAt, EndsAt, IsBodyAt, AreArmsAt};
 ghost use Rattle.session_layer.specs.Rooted.{Adds, AddsAll};
 
-use crate::adding::{add_absurd, add_if, add_match, add_ret, add_tail, free_number};
+use crate::adding::{add_absurd, add_if, add_match, add_ret, add_tail, push_node};
 use chan_base::Memory;
 use chan_syntax::{Block, Last, Stmt, SurfaceArm};
 use core_programs::{Arm, Arms, Nodes};
@@ -23,9 +23,8 @@ fn number_stmts(alloc: Global, nodes: &mut Nodes, stmts: &[Stmt], last: u32) -> 
     let mut left = stmts.len();
     while left > 0 {
         left -= 1;
-        let number = free_number(nodes)?;
         let node = stmt_node(alloc, &stmts[left], next)?;
-        nodes.push(node)?;
+        let number = push_node(nodes, node)?;
         next = number;
     }
     Ok(next)

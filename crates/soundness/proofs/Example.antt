@@ -5,13 +5,13 @@ use Rattle.core_language.specs.Resources.{Proto}
 use Rattle.core_language.specs.Resources as written
 use Rattle.core_language.specs.Programs.{Function, Program, function_named, Print, Recv1, Ret}
 use Rattle.core_language.specs.Operands as supply
-use Rattle.outline_language.specs.Paths.{Direction, Sends, Receives, Fork, fork_of, proto_named, written_message}
+use Rattle.outline_language.specs.Equations.{Direction, Sends, Receives, Fork, fork_of, proto_named, written_message, Concrete}
 use Rattle.outline_language.specs.Outlined.{faults_of_program, least, IsOutlined}
 use Rattle.outline_language.specs.Examples.{one, seed, main_with, receives, at, named, pattern, with_instances}
 use Rattle.outline_language.proofs.Bodies.{functions_of_none}
 use Rattle.outline_language.proofs.FirstFaults.{least_is_none}
 use Rattle.outline_language.proofs.Examples.{receiving}
-use Rattle.good_configurations.specs.Ends.{Concrete, next_in}
+use Rattle.good_configurations.specs.Ends.{next_in}
 use Rattle.good_configurations.specs.Messages.{Does}
 use Rattle.outline_values.specs.Formed.{Knows, KnowsRes, nest_resource, deepest, FunctionFormed, MainFormed, IsFormed}
 use Rattle.soundness.specs.Laws.{SomeProgramHolds}

@@ -20,7 +20,7 @@ use Rattle.good_configurations.specs.Ends.{at, integer_at}
 use Rattle.good_configurations.specs.Values.{Use, InRelation, Keeps, KeepsAll, Has, HasShape}
 use Rattle.outline_values.specs.Proper.{ProperForms, ProperLimits, ProperRes, ProperShape, ProperVar, nest}
 use Rattle.outline_values.proofs.Answers.{one_ok, err_ok, and_then-ok, provided-ok}
-use Rattle.outline_values.proofs.Forms.{minus-at, plus_one-at, variable-at}
+use Rattle.outline_language.proofs.Values.{minus-at, plus_one-at, variable-at}
 use Rattle.outline_values.proofs.Alike.{has_shape-alike, keeps-alike, limits-turned, LimitsAlike}
 use Rattle.outline_values.proofs.Proper.{low_values, high, parts-weak, var-more, shape-more, length-map}
 use Rattle.outline_values.proofs.Readings.{limits-agree, shape-agree, limits-open}

@@ -22,7 +22,7 @@ use Rattle.good_configurations.specs.Uses.{AreSame}
 use Rattle.outline_values.specs.Proper.{HasEntries, ProperLimits, ProperRes, ProperShape, nest, nest_res}
 use Rattle.outline_values.specs.Formed.{deepest, ParamsFormed, FunctionFormed, NamesBound}
 use Rattle.outline_values.proofs.Answers.{one_some, none_some}
-use Rattle.outline_values.proofs.Forms.{constant-at, variable-at}
+use Rattle.outline_language.proofs.Values.{constant-at, variable-at}
 use Rattle.outline_values.proofs.Alike.{has_shape-alike, has-alike, keeps-alike, res-turned}
 use Rattle.outline_values.proofs.Proper.{past, shape-read, res-read, limits-read}
 use Rattle.outline_values.proofs.Readings.{value_named, int_named, named-at, shape-like, res-like, limits-like}

@@ -23,7 +23,7 @@ use Rattle.good_configurations.specs.Values.{Use, InRelation, Keeps, KeepsAll, H
 use Rattle.outline_values.specs.Proper.{HasEntries, HasHeld, ProperForms, ProperLimits, ProperRes, ProperShape, ProperVar, nest_res}
 use Rattle.outline_values.specs.Formed.{deepest}
 use Rattle.outline_values.proofs.Answers.{one_ok, err_ok, and_then-ok, provided-ok}
-use Rattle.outline_values.proofs.Forms.{minus-at, plus_one-at, variable-at}
+use Rattle.outline_language.proofs.Values.{minus-at, plus_one-at, variable-at}
 use Rattle.outline_values.proofs.Alike.{has_shape-alike, has-alike, keeps-alike, limits-turned, LimitsAlike}
 use Rattle.outline_values.proofs.Proper.{low_values, high, shape-more, res-more, length-map}
 use Rattle.outline_values.proofs.Readings.{limits-agree, shape-agree, res-agree, limits-open}

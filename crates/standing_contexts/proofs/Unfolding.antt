@@ -11,13 +11,14 @@ use Rattle.core_language.specs.Values.{Value}
 use Rattle.outline_language.specs.LinearForms.{Var, Free, Inside, LinearForm, minus, plus_one, form_at}
 use Rattle.outline_language.specs.Nameless.{Ref, Res, turned_if, nameless_term, nameless_ref, nameless_res, form_with, ref_with, res_with}
 use Rattle.outline_language.specs.Contexts.{Why, WrongForm, TooLarge, BranchNotProved, and_then, or_why, provided, Context, Cursor, formed, oblige}
-use Rattle.outline_language.specs.Paths.{Direction, Message, Fork, fork_of, on_way, proto_named, written_message, turned, is_path, Followed, asked, formed_ref, take_letter, follow_letter, follow, formed_res, message_at, Unfolded, unfolded}
-use Rattle.good_configurations.specs.Ends.{Concrete, opposite, opposite_if, concrete, at, integer_at, no_values, Head, Next, Gives, Goes, next_at, next_in, next_of, HasHead, way, letter_of, picked}
+use Rattle.outline_language.specs.Paths.{Message, turned, is_path, Followed, asked, formed_ref, take_letter, follow_letter, follow, formed_res, message_at, Unfolded, unfolded}
+use Rattle.outline_language.specs.Equations.{Direction, Fork, fork_of, on_way, proto_named, written_message, Concrete, opposite}
+use Rattle.good_configurations.specs.Ends.{opposite_if, concrete, at, integer_at, no_values, Head, Next, Gives, Goes, next_at, next_in, next_of, HasHead, way, letter_of, picked}
 use Rattle.good_configurations.specs.Values.{Use, Has}
 use Rattle.outline_values.specs.Proper.{ProperForm, ProperForms, ProperRef, ProperRes, ProperVar, nest_res}
 use Rattle.outline_values.specs.Formed.{Knows, KnowsRes, deepest, nest_resource, IsFormed}
 use Rattle.outline_values.proofs.Answers.{one_ok, err_ok, and_then-ok, provided-ok, or_why-ok, one_some, none_some}
-use Rattle.outline_values.proofs.Forms.{minus-at, plus_one-at}
+use Rattle.outline_language.proofs.Values.{minus-at, plus_one-at}
 use Rattle.outline_values.proofs.Alike.{has-alike, res-turned, ResAlike}
 use Rattle.outline_values.proofs.Proper.{term-read, terms-read, res-read, forms_with-proper, res_with-proper, length-map, res-more}
 use Rattle.outline_values.proofs.Readings.{proper-agree, one-open, res-open, res-agree}

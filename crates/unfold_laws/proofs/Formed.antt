@@ -26,8 +26,8 @@ use Rattle.form_faults.specs.Resources.{shape_faults, res_in_faults, row_faults,
 use Rattle.core_programs.specs.declared.nodes.Parts.{Parts}
 use Rattle.core_programs.specs.Passes.{proto_signatures, protos_faults, funcs_faults, func_signatures}
 use Rattle.core_programs.specs.Form.{HasForm}
-use Rattle.protocols.specs.Duals.{message_of, branches_of, dual_ref, with_end}
-use Rattle.protocols.specs.Heads.{proto_named}
+use Rattle.protocols.specs.Duals.{message_of, branches_of}
+use Rattle.outline_language.specs.Equations.{dual_written, with_end, proto_named}
 use Rattle.protocols.specs.Unfolding.{NamesOnly, NamesUnder, branch_terms, message_terms, HasArity, AreFormed}
 use Rattle.unfold_laws.specs.References.{IsKnown}
 use Rattle.unfold_laws.proofs.Clean.{none_left, none_right, none_of_one, IsIn, Within, names_within, bound_within, term_named, terms_named, limits_named, bound_limits, all_scoped}
@@ -177,7 +177,7 @@ module _ (protos : List Signature) (params : List Ident) where
     messages_named (equation.Send res None) none = plain_named res (message_clean res None none).0
     messages_named (equation.Send res (Some ref)) none =
         let clean = message_clean res (Some ref) none in
-        ended_named res (dual_ref (ref_of ref)) clean.0 (next_named res ref clean.1)
+        ended_named res (dual_written (ref_of ref)) clean.0 (next_named res ref clean.1)
     messages_named (equation.Recv res None) none = plain_named res (message_clean res None none).0
     messages_named (equation.Recv res (Some ref)) none =
         let clean = message_clean res (Some ref) none in

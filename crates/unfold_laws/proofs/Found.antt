@@ -7,8 +7,9 @@ use Rattle.core_language.specs.Resources as resource
 use Rattle.core_language.specs.Operands.{Letter}
 use Rattle.linear_forms.specs.Substitution.{Each, OnNames, OnTerms, IsRefLike, IsShapeLike, IsResLike, AreResourcesLike, IsRenamed, IsNormalPut}
 use Rattle.linear_forms.proofs.Shorts.{all_left, all_right}
-use Rattle.protocols.specs.Duals.{dual_equation, dual_ref, Message, message_of}
-use Rattle.protocols.specs.Heads.{proto_named, equation_of_end}
+use Rattle.protocols.specs.Duals.{dual_equation, Message, message_of}
+use Rattle.outline_language.specs.Equations.{dual_written, proto_named}
+use Rattle.protocols.specs.Heads.{equation_of_end}
 use Rattle.protocols.specs.Unfolding.{Setting, Found, Unfolds}
 use Rattle.unfold_laws.specs.References.{refs_of_shape, refs_of_res, refs_of_resources, refs_of_equation, refs_of_message, IsKnown, AreKnown, KnowTheirs}
 
@@ -28,14 +29,14 @@ module _ (protos : List Proto) where
   dual_known : (e : Equation) → All Is (refs_of_equation e) → All Is (refs_of_equation (dual_equation e))
   dual_known (Send res None) h = h
   dual_known (Send res (Some r)) h =
-      All-append Is (refs_of_res res) (dual_ref r ∷ []) (all_left Is (refs_of_res res) (r ∷ []) h) (All-cons Is (dual_ref r) [] (All-head Is r [] (all_right Is (refs_of_res res) (r ∷ []) h)) (All-nil Is))
+      All-append Is (refs_of_res res) (dual_written r ∷ []) (all_left Is (refs_of_res res) (r ∷ []) h) (All-cons Is (dual_written r) [] (All-head Is r [] (all_right Is (refs_of_res res) (r ∷ []) h)) (All-nil Is))
   dual_known (Recv res None) h = h
   dual_known (Recv res (Some r)) h =
-      All-append Is (refs_of_res res) (dual_ref r ∷ []) (all_left Is (refs_of_res res) (r ∷ []) h) (All-cons Is (dual_ref r) [] (All-head Is r [] (all_right Is (refs_of_res res) (r ∷ []) h)) (All-nil Is))
+      All-append Is (refs_of_res res) (dual_written r ∷ []) (all_left Is (refs_of_res res) (r ∷ []) h) (All-cons Is (dual_written r) [] (All-head Is r [] (all_right Is (refs_of_res res) (r ∷ []) h)) (All-nil Is))
   dual_known Close h = h
   dual_known Wait h = h
   dual_known (Branch left right this other) h =
-      All-cons Is (dual_ref this) (dual_ref other ∷ []) (All-head Is this (other ∷ []) h) (All-cons Is (dual_ref other) [] (All-head Is other [] (All-tail Is this (other ∷ []) h)) (All-nil Is))
+      All-cons Is (dual_written this) (dual_written other ∷ []) (All-head Is this (other ∷ []) h) (All-cons Is (dual_written other) [] (All-head Is other [] (All-tail Is this (other ∷ []) h)) (All-nil Is))
 
   end_known : (dual : Bool) (proto : Proto) → All Is (refs_of_equation proto.equation) → All Is (refs_of_equation (equation_of_end dual proto))
   end_known true proto h = dual_known proto.equation h
@@ -44,7 +45,7 @@ module _ (protos : List Proto) where
   message_known : (e : Equation) → All Is (refs_of_equation e) → All Is (refs_of_message (message_of e))
   message_known (Send res None) h = all_left Is (refs_of_res res) [] h
   message_known (Send (resource.Binds bound shape) (Some r)) h =
-      All-append Is (refs_of_shape shape) (dual_ref r ∷ []) (all_left Is (refs_of_shape shape) (r ∷ []) h) (All-cons Is (dual_ref r) [] (All-head Is r [] (all_right Is (refs_of_shape shape) (r ∷ []) h)) (All-nil Is))
+      All-append Is (refs_of_shape shape) (dual_written r ∷ []) (all_left Is (refs_of_shape shape) (r ∷ []) h) (All-cons Is (dual_written r) [] (All-head Is r [] (all_right Is (refs_of_shape shape) (r ∷ []) h)) (All-nil Is))
   message_known (Recv res None) h = all_left Is (refs_of_res res) [] h
   message_known (Recv (resource.Binds bound shape) (Some r)) h = h
   message_known Close h = All-nil Is

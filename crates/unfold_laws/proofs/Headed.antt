@@ -20,7 +20,8 @@ use Rattle.protocol_guard.proofs.Tables.{graph_closed}
 use Rattle.core_programs.specs.declared.nodes.Parts.{Parts}
 use Rattle.core_programs.specs.Form.{HasForm}
 use Rattle.protocols.specs.Duals.{Message, dual_equation, message_of}
-use Rattle.protocols.specs.Heads.{Concrete, argument, concrete, proto_named, equation_of_end, Head, way, on_way, HasHead}
+use Rattle.protocols.specs.Heads.{argument, concrete, equation_of_end, Head, way, on_way, HasHead}
+use Rattle.outline_language.specs.Equations.{Concrete, proto_named}
 use Rattle.unfold_laws.specs.References.{refs_of_equation, IsKnown, AreKnown, KnowTheirs}
 use Rattle.unfold_laws.proofs.Known.{theirs_known}
 

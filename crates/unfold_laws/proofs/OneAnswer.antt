@@ -5,8 +5,9 @@ use Rattle.core_language.specs.Resources.{Ref, Res, Equation, Proto, Send, Recv,
 use Rattle.core_language.specs.Operands.{Letter}
 use Rattle.linear_forms.specs.Terms.{IntVar, put_of}
 use Rattle.linear_forms.specs.Substitution.{Each, Fits, IsNormalPut, IsRefLike, IsSubst, AllFit, terms_of_res}
-use Rattle.protocols.specs.Duals.{Message, Direction, message_of}
-use Rattle.protocols.specs.Heads.{proto_named, equation_of_end, on_way}
+use Rattle.protocols.specs.Duals.{Message, message_of}
+use Rattle.outline_language.specs.Equations.{Direction, proto_named}
+use Rattle.protocols.specs.Heads.{equation_of_end, on_way}
 use Rattle.protocols.specs.Unfolding.{Fault, WrongForm, CertCount, BranchNotProved, TooLarge, has_form, Setting, asked_row, obligation, IsFormed, Outcome, On, Stop, Takes, HasEquationAt, Steps, Follows, HasMessage, HasFormed, IsMessageTooLarge, Found, Unfolds}
 use Rattle.unfold_laws.specs.Answers.{AreAlike}
 use Rattle.unfold_laws.proofs.OneSpelling.{one_term_under}

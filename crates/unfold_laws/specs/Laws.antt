@@ -10,7 +10,8 @@ use Rattle.core_programs.specs.declared.nodes.Node.{Node}
 use Rattle.core_programs.specs.declared.nodes.Parts.{Parts}
 use Rattle.core_programs.specs.Bodies.{program_of}
 use Rattle.core_programs.specs.Form.{HasForm, IsFormed}
-use Rattle.protocols.specs.Heads.{Concrete, proto_named, Head, HasHead}
+use Rattle.protocols.specs.Heads.{Head, HasHead}
+use Rattle.outline_language.specs.Equations.{Concrete, proto_named}
 use Rattle.protocols.specs.Unfolding.{Fault, Setting, HasArity, AreFormed, Found, Unfolds}
 use Rattle.unfold_laws.specs.References.{refs_of_res, refs_of_program, IsKnown, AreKnown, KnowTheirs}
 use Rattle.unfold_laws.specs.Forks.{refs_of_node}

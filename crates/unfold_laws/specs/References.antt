@@ -6,7 +6,7 @@ use Rattle.core_language.specs.Resources as resource
 use Rattle.core_language.specs.Programs.{Body, Arms, Function, Program}
 use Rattle.core_language.specs.Programs as core
 use Rattle.protocols.specs.Duals.{Message}
-use Rattle.protocols.specs.Heads.{proto_named}
+use Rattle.outline_language.specs.Equations.{proto_named}
 
 -- ---- references
 

@@ -2,7 +2,8 @@ use Rattle.std.proofs.Common.{◌+◌, ◌^◌, pos, ◌∙◌, ap, arith}
 use Rattle.outline_language.specs.LinearForms.{add_times}
 use Rattle.outline_language.specs.Nameless.{instance_for, form_with}
 use Rattle.nameless_forms.proofs.Sizes.{looser_form}
-use Rattle.nameless_forms.proofs.Values.{once, put_canonical}
+use Rattle.nameless_forms.proofs.Values.{once}
+use Rattle.outline_language.proofs.Sums.{put_canonical}
 use Rattle.nameless_forms.proofs.putting.with.Goals as goal
 
 pub put-requires-clause-within : goal.put-requires-clause-within
