@@ -3,6 +3,7 @@ ghost use Rattle.std.specs.Prelude.{◌≡◌, map, find};
 ghost use Rattle.std.specs.Option.{option_map, option_copied};
 ghost use Rattle.core_language.specs.Names.{same};
 ghost use Rattle.chan_syntax.specs.Reading.{ref_of, equation_of, proto_of, letter_of};
+ghost use Rattle.outline_language.specs.Equations as equations;
 ghost use Rattle.protocols.specs.Heads as heads;
 ghost use Rattle.protocols.specs.Places.{first_named, way_of};
 ghost use Rattle.protocols.specs.Unfolding as spec;
@@ -17,7 +18,7 @@ fn first_named<'a>(protos: &'a [Proto], name: &Ident) -> Option<&'a Proto>
 
 /// The first protocol with this name.
 pub(crate) fn proto_named<'a>(protos: &'a [Proto], name: &Ident) -> Option<&'a Proto>
-    ensures read { option_map proto_of (option_copied result) ≡ heads.proto_named name.now (map proto_of protos.now) }
+    ensures read { option_map proto_of (option_copied result) ≡ equations.proto_named name.now (map proto_of protos.now) }
     ensures placed { option_copied result ≡ first_named protos.now name.now }
 {
     first_named(protos, name)
@@ -44,7 +45,7 @@ fn picked(proto: &Proto, letter: Letter) -> Option<&Ref>
 
 /// Where a letter goes on from the protocol with this name.
 fn picked_at<'a>(protos: &'a [Proto], name: &Ident, letter: Letter) -> Option<&'a Ref>
-    ensures { option_map ref_of (option_copied result) ≡ spec.picked_at (letter_of letter) (heads.proto_named name.now (map proto_of protos.now)) }
+    ensures { option_map ref_of (option_copied result) ≡ spec.picked_at (letter_of letter) (equations.proto_named name.now (map proto_of protos.now)) }
 {
     match proto_named(protos, name) {
         Some(proto) => picked(proto, letter),
@@ -59,7 +60,7 @@ fn ends_here(equation: &Equation) -> bool
 }
 
 fn stops(protos: &[Proto], name: &Ident) -> bool
-    ensures { result ≡ spec.stops (heads.proto_named name.now (map proto_of protos.now)) }
+    ensures { result ≡ spec.stops (equations.proto_named name.now (map proto_of protos.now)) }
 {
     match proto_named(protos, name) {
         Some(proto) => ends_here(&proto.equation),
