@@ -1,5 +1,5 @@
 -- What was taken of a proof, and obligations, as the definitions have them.
-use Rattle.std.specs.Prelude.{ℕ, List, map, Result}
+use Rattle.std.specs.Prelude.{◌≡◌, ℕ, List, map, Result, Ok}
 use Rattle.farkas_check.specs.declared.cert.CertFault.{CertFault}
 use Rattle.farkas_check.specs.declared.cert.Row.{Row}
 use Rattle.farkas_check.specs.Certificates.{faults, verdict}
@@ -28,3 +28,7 @@ tried_at refused hyps row cert cursor =
 -- the form is at most 0, over so many integer variables and under these hypotheses
 abbrev pub obliged : Refused → (variables : ℕ) → List Row → LinearForm → Cursor → Result Cursor Why
 obliged refused variables hyps form cursor = and_then (row_formed variables form) (λ row. row_shown (refused_as refused) hyps row cursor)
+
+-- so much of the proof is taken then
+abbrev pub Obliges : Refused → (variables : ℕ) → List Row → LinearForm → Proof → (before after : Taken) → Type 0
+Obliges refused variables hyps form proof before after = obliged refused variables hyps form (cursor_at proof before) ≡ Ok (cursor_at proof after)

@@ -1,9 +1,9 @@
 //! Forms that are shown to be at most 0: first their rows are formed, then shown.
-ghost use Rattle.std.specs.Prelude.{◌≡◌, ◌≤◌, All, Ok, IfOk, IfErr};
+ghost use Rattle.std.specs.Prelude.{◌≤◌, All, IfOk, IfErr};
 ghost use Rattle.farkas_check.specs.Rows.{IsNarrow};
 ghost use Rattle.chan_syntax.specs.Bounds.{IsBounded};
 ghost use Rattle.outline_language.specs.LinearForms.{minus, plus_one};
-ghost use Rattle.outline_obligations.specs.Cursors.{cursor_at, obliged};
+ghost use Rattle.outline_obligations.specs.Cursors.{cursor_at, obliged, Obliges};
 ghost use Rattle.outline_obligations.specs.Reasons.{IsReason};
 
 use crate::cursors::{Refused, Taken};
@@ -28,7 +28,7 @@ pub fn oblige_at_most(
     requires variables { variables ≤ 256 }
     requires hypotheses { All IsNarrow hyps.now }
     requires certs { All IsBounded proof.now.certs }
-    ensures ok { IfOk result (λ after. obliged refused variables hyps.now (minus left.now right.now) (cursor_at proof.now taken) ≡ Ok (cursor_at proof.now after)) }
+    ensures ok { IfOk result (Obliges refused variables hyps.now (minus left.now right.now) proof.now taken) }
     ensures err { IfErr result (IsReason (obliged refused variables hyps.now (minus left.now right.now) (cursor_at proof.now taken))) }
 {
     let row = at_most_row(alloc, variables, left, right)?;
@@ -49,7 +49,7 @@ pub fn oblige_less(
     requires variables { variables ≤ 256 }
     requires hypotheses { All IsNarrow hyps.now }
     requires certs { All IsBounded proof.now.certs }
-    ensures ok { IfOk result (λ after. obliged refused variables hyps.now (plus_one (minus left.now right.now)) (cursor_at proof.now taken) ≡ Ok (cursor_at proof.now after)) }
+    ensures ok { IfOk result (Obliges refused variables hyps.now (plus_one (minus left.now right.now)) proof.now taken) }
     ensures err { IfErr result (IsReason (obliged refused variables hyps.now (plus_one (minus left.now right.now)) (cursor_at proof.now taken))) }
 {
     let row = less_row(alloc, variables, left, right)?;
@@ -69,7 +69,7 @@ pub fn oblige(
     requires variables { variables ≤ 256 }
     requires hypotheses { All IsNarrow hyps.now }
     requires certs { All IsBounded proof.now.certs }
-    ensures ok { IfOk result (λ after. obliged refused variables hyps.now form.now (cursor_at proof.now taken) ≡ Ok (cursor_at proof.now after)) }
+    ensures ok { IfOk result (Obliges refused variables hyps.now form.now proof.now taken) }
     ensures err { IfErr result (IsReason (obliged refused variables hyps.now form.now (cursor_at proof.now taken))) }
 {
     let zero = Form::constant(alloc, 0);
