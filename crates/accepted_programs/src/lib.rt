@@ -1,0 +1,6 @@
+//! Programs that are outlined.
+#![tactic(auto)]
+
+mod accepted;
+
+pub use accepted::Accepted;
