@@ -1,0 +1,4 @@
+pub mod Certificates
+pub mod Reasons
+pub mod Rows
+pub mod Steps
