@@ -17,7 +17,7 @@ fn instances(alloc: Global) -> Result<Forms, FormFault> {
 /// The binder with this number, with the instances.
 fn put(alloc: Global, depth: usize, number: u32) -> Result<Form, FormFault> {
     let instances = instances(alloc)?;
-    let binder = Form::variable(alloc, Var::inside(number))?;
+    let binder = Form::variable(alloc, Var::inside(number as usize))?;
     form_with(alloc, instances.as_slice(), depth, &binder)
 }
 
@@ -31,7 +31,7 @@ fn is_instance(alloc: Global, depth: usize, number: u32, index: usize) -> Result
 }
 
 fn stays(alloc: Global, depth: usize, number: u32) -> Result<bool, FormFault> {
-    let binder = Form::variable(alloc, Var::inside(number))?;
+    let binder = Form::variable(alloc, Var::inside(number as usize))?;
     let put = put(alloc, depth, number)?;
     Ok(put.is_same(&binder))
 }

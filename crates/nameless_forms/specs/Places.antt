@@ -1,5 +1,5 @@
 -- How the code has variables.
-use Rattle.std.specs.Prelude.{◌≡◌}
+use Rattle.std.specs.Prelude.{◌≡◌, ⊤, ◌+◌, ◌<◌, ◌^◌}
 use Rattle.std.proofs.Common.{refl}
 use Rattle.outline_language.specs.LinearForms as form
 use Rattle.nameless_forms.specs.declared.variables.Place.{Place}
@@ -16,3 +16,8 @@ place_of (form.Free i) = Free i
 pub place_back : (p : Place) → place_of (var_of p) ≡ p
 place_back (Inside i) = refl
 place_back (Free i) = refl
+
+-- 64 bits hold how many binders outwards it stands
+abbrev pub IsNear : Place → Type 0
+IsNear (Inside i) = i + 1 < 2 ^ 64
+IsNear (Free i) = ⊤

@@ -1,5 +1,5 @@
 //! Forms in which instances stand for binders.
-ghost use Rattle.std.specs.Prelude.{◌≡◌, ◌+◌, ◌≤◌, ◌^◌, ℕ, ◌*ℤ◌, unsigned_abs, slice_get, unwrap_or, Ok, OnOk, IfOk, IfErr};
+ghost use Rattle.std.specs.Prelude.{◌≡◌, ◌+◌, ◌≤◌, ◌<◌, ◌^◌, ℕ, ◌*ℤ◌, unsigned_abs, slice_get, unwrap_or, Ok, OnOk, IfOk, IfErr};
 ghost use Rattle.outline_language.specs.LinearForms.{Inside, variable_form, add_times};
 ghost use Rattle.outline_language.specs.Nameless.{instance_for, form_with as with_instances};
 ghost use Rattle.outline_language.specs.Contexts.{formed};
@@ -25,15 +25,15 @@ fn instance_at(instances: &[Form], number: usize, var: Var) -> Standing<'_>
     }
 }
 
-fn standing_of_binder(instances: &[Form], depth: usize, number: u32) -> Standing<'_>
+fn standing_of_binder(instances: &[Form], depth: usize, number: usize) -> Standing<'_>
+    requires { number + 1 < 2 ^ 64 }
     ensures { standing_of result ≡ instance_for instances.now depth (Inside number) }
 {
     let var = Var::inside(number);
-    let index = number as usize;
-    if index < depth {
+    if number < depth {
         Standing::Variable(var)
     } else {
-        instance_at(instances, index - depth, var)
+        instance_at(instances, number - depth, var)
     }
 }
 

@@ -14,7 +14,7 @@ fn var_reach(var: Var) -> usize
 {
     match var.place {
         Place::Free(_) => 0,
-        Place::Inside(number) => number as usize + 1,
+        Place::Inside(number) => number + 1,
     }
 }
 

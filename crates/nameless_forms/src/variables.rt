@@ -1,5 +1,5 @@
 //! Variables, and their order.
-ghost use Rattle.std.specs.Prelude.{◌≡◌, Some, refl};
+ghost use Rattle.std.specs.Prelude.{◌≡◌, ◌+◌, ◌<◌, ◌^◌, Some, refl};
 ghost use Rattle.std.specs.Cmp.{partial_equiv_from_equiv};
 ghost use Rattle.outline_language.specs.LinearForms.{Free, Inside, same_var, variable_order};
 ghost use Rattle.nameless_forms.specs.Order.{order_total, order_ties, same_equiv, order_po};
@@ -9,7 +9,7 @@ use std::marker::Model;
 
 #[derive(Clone, Copy)]
 pub(crate) enum Place {
-    Inside(u32),
+    Inside(usize),
     Free(u32),
 }
 
@@ -28,9 +28,11 @@ impl Model for Var {
     ghost coded = { var_code };
 
     ghost use Rattle.std.proofs.Common.{ap};
-    ghost use Rattle.nameless_forms.specs.Places.{var_of, place_of, place_back};
+    ghost use Rattle.nameless_forms.specs.Places.{var_of, place_of, place_back, IsNear};
 
     ghost view = { λ var. var_of var.place };
+
+    ghost invariant = { λ var. IsNear var.place };
 
     ghost inverse = { λ var. record { place = place_of var } };
 
@@ -46,7 +48,9 @@ impl Var {
         }
     }
 
-    pub fn inside(number: u32) -> Var
+    /// The binder that stands so many others outwards.
+    pub fn inside(number: usize) -> Var
+        requires { number + 1 < 2 ^ 64 }
         ensures { result ≡ Inside number }
     {
         Var {
