@@ -1,0 +1,4 @@
+pub mod PutTerms
+pub mod MadeNames
+pub mod Under
+pub mod Shapes
