@@ -11,7 +11,8 @@ use Rattle.outline_language.specs.LinearForms.{LinearForm}
 use Rattle.outline_language.specs.Nameless.{Ref, Limit, Shape, Res, Unit as UnitShape, End, Pair, Binds, has_end, limit_with, forms_of_limit, nameless_shape, nameless_res}
 use Rattle.outline_language.specs.Contexts.{Why, WrongForm, InstanceCount, CertCount, Left, Context, Entry, Cursor, Supplied, and_then, or_why, provided, nothing, entry_named, take, take_instances, oblige_all, instances, put_in_shape, leftovers, nothing_left, start, start_of, Taken}
 use Rattle.outline_language.specs.Giving.{Given, accept, give, give_shape, give_variable, at_res, pair_of}
-use Rattle.outline_language.specs.Paths.{Sends, Message, Followed, Unfolded, unfolded, follow, is_path, message_at, bare, sends}
+use Rattle.outline_language.specs.Paths.{Message, Followed, Unfolded, unfolded, follow, is_path, message_at}
+use Rattle.outline_language.specs.Equations.{Sends, bare, sends}
 use Rattle.outline_language.specs.Rules.{Opened, opened, end_of, rule_send, rule_ret}
 use Rattle.outline_language.specs.Outlined.{Meets, OutlinedBody, OutlinedFunction, own_result}
 use Rattle.helper_outlines.specs.Helpers.{hypotheses_from, named, variable, no_proof, unbound, IsBinder, IsHelper, HelpersAreOutlined}

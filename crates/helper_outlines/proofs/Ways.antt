@@ -6,7 +6,8 @@ use Rattle.core_language.specs.Operands.{Letter, Proof}
 use Rattle.outline_language.specs.LinearForms.{LinearForm}
 use Rattle.outline_language.specs.Nameless.{Ref, turned_if, nameless_term, nameless_ref, form_with, ref_with}
 use Rattle.outline_language.specs.Contexts.{Why, WrongForm, BranchNotProved, Context, Cursor, or_why, and_then, formed, oblige}
-use Rattle.outline_language.specs.Paths.{Fork, fork_of, on_way, proto_named, asked, formed_ref, Followed, take_letter, follow_letter, follow}
+use Rattle.outline_language.specs.Paths.{asked, formed_ref, Followed, take_letter, follow_letter, follow}
+use Rattle.outline_language.specs.Equations.{Fork, fork_of, on_way, proto_named}
 use Rattle.helper_outlines.specs.Helpers.{Turn, Way}
 use Rattle.helper_outlines.proofs.Steps.{chain, there}
 use Rattle.helper_outlines.proofs.Standing.{Standing, cursor_at, obliges}

@@ -11,7 +11,8 @@ use Rattle.linear_forms.specs.Substitution.{place_of}
 use Rattle.outline_language.specs.LinearForms.{Free, LinearForm, variable_form}
 use Rattle.outline_language.specs.Nameless.{Ref, Limit, Shape, Res, End, Pair, Binds, turned_if, nameless_term, nameless_ref, nameless_shape, form_with, limit_with, ref_with, forms_of_limit}
 use Rattle.outline_language.specs.Contexts.{asks_nothing, formed, row_formed, put_in_shape, start}
-use Rattle.outline_language.specs.Paths.{Sends, Fork, fork_of, on_way, proto_named, is_path, asked, formed_ref, message_at, no_bound, bare}
+use Rattle.outline_language.specs.Paths.{is_path, asked, formed_ref, message_at}
+use Rattle.outline_language.specs.Equations.{Sends, Fork, fork_of, on_way, proto_named, no_bound, bare}
 use Rattle.outline_language.specs.Outlined.{OutlinedFunction}
 
 -- ---- certificates

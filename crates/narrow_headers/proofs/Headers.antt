@@ -22,7 +22,7 @@ use Rattle.core_programs.specs.Trees.{tree}
 use Rattle.core_programs.specs.Passes.{proto_signatures, func_signatures, body_faults, func_faults, funcs_faults, protos_faults}
 use Rattle.frame_laws.proofs.Tests.{none_left, none_right}
 use Rattle.outline_language.specs.Nameless.{nameless_limit, nameless_shape, limit_fits, shape_fits}
-use Rattle.outline_language.specs.Paths.{Direction, Sends, Receives, Fork, fork_of, written_message, with_end, dual_written}
+use Rattle.outline_language.specs.Equations.{Direction, Sends, Receives, Fork, fork_of, written_message, with_end, dual_written}
 use Rattle.narrow_headers.specs.Narrow.{NarrowRes, IsNarrowHeader, IsNarrowFork, IsNarrowProtocol, most}
 use Rattle.narrow_headers.specs.Laws.{HeadersAreNarrow, ProtocolsAreNarrow}
 use Rattle.narrow_headers.proofs.Resources.{and_true, term_narrow, ref_narrow, bound_narrow, shape_narrow, res_narrow, params_narrow}

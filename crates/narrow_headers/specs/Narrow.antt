@@ -8,7 +8,7 @@ use Rattle.core_language.specs.Programs.{Function}
 use Rattle.linear_forms.specs.Normal.{row_fits}
 use Rattle.outline_language.specs.LinearForms.{form_fits, row_of}
 use Rattle.outline_language.specs.Nameless.{nameless_term, nameless_limit, nameless_shape, nameless_res, limit_fits, shape_fits, res_fits, forms_of_limit}
-use Rattle.outline_language.specs.Paths.{Direction, Fork, fork_of, written_message}
+use Rattle.outline_language.specs.Equations.{Direction, Fork, fork_of, written_message}
 
 abbrev pub NarrowTerm : Term → Type 0
 NarrowTerm t = (ints around : List Ident) → form_fits (nameless_term ints around t) ≡ true

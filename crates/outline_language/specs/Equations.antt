@@ -46,9 +46,13 @@ with_end (Binds bound shape) (Some ref) = Binds bound (Pair (bare shape) (bare (
 abbrev pub dual_written : Ref → Ref
 dual_written ref = record { dual = not ref.dual; name = ref.name; args = ref.args }
 
+-- that of what follows a message, where something does
+abbrev pub dual_next : Option Ref → Option Ref
+dual_next next = option_map dual_written next
+
 -- what an equation that isn't `if` sends or receives: the sender's end goes on as the dual of what it sends along
 abbrev pub written_message : Equation → Option (Direction × Res)
-written_message (Send res next) = Some (Sends, with_end res (option_map dual_written next))
+written_message (Send res next) = Some (Sends, with_end res (dual_next next))
 written_message (Recv res next) = Some (Receives, with_end res next)
 written_message Close = Some (Sends, bare Unit)
 written_message Wait = Some (Receives, bare Unit)

@@ -5,7 +5,8 @@ use Rattle.std.specs.Coded.{Coded, code_by, coded_ℕ, coded_list, coded×, code
 use base.Stored.{coded_unit}
 use Rattle.outline_language.specs.LinearForms.{LinearForm}
 use Rattle.outline_language.specs.Nameless.{Ref, Res}
-use Rattle.outline_language.specs.Paths.{Direction, Sends, Receives, Message}
+use Rattle.outline_language.specs.Paths.{Message}
+use Rattle.outline_language.specs.Equations.{Direction, Sends, Receives}
 use Rattle.nameless_forms.specs.Codes.{form_code}
 use Rattle.nameless_shapes.specs.ShapeCode.{ref_code, res_code}
 use Rattle.protocol_tables.specs.Protocols.{Fork, Protocol}

@@ -6,8 +6,9 @@ use Rattle.core_language.specs.Names.{Ident, same}
 use Rattle.core_language.specs.Resources.{Proto, Equation, Res as WrittenRes, Ref as WrittenRef}
 use Rattle.outline_language.specs.LinearForms.{LinearForm, form_fits}
 use Rattle.outline_language.specs.Nameless.{Ref, Res, nameless_term, nameless_ref, nameless_res, res_fits}
-use Rattle.outline_language.specs.Paths as written
-use Rattle.outline_language.specs.Paths.{Direction, Message, with_end, dual_next, fork_of, written_message}
+use Rattle.outline_language.specs.Equations as written
+use Rattle.outline_language.specs.Paths.{Message}
+use Rattle.outline_language.specs.Equations.{Direction, with_end, dual_next, fork_of, written_message}
 
 -- an `if` equation
 pub record Fork : Type 0 where

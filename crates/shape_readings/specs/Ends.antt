@@ -5,7 +5,7 @@ use Rattle.core_language.specs.Resources.{Ref, Res}
 use Rattle.core_language.specs.Resources as written
 use Rattle.outline_language.specs.Nameless as nameless
 use Rattle.outline_language.specs.Nameless.{nameless_shape, nameless_ref, nameless_res}
-use Rattle.outline_language.specs.Paths.{with_end}
+use Rattle.outline_language.specs.Equations.{with_end}
 
 -- the dual, where the mark is set
 abbrev pub turned_ref : Bool → Ref → Ref
