@@ -11,7 +11,7 @@ use Rattle.linear_forms.specs.NormalTerms.{one_named, count_of, bare_of}
 use Rattle.linear_forms.proofs.Linear.{sum_of-cong}
 use Rattle.linear_forms.proofs.SameNames.{same_is, same-self}
 use Rattle.narrow_terms.specs.Numbers.{name_fits, are_narrow, is_narrow}
-use Rattle.nameless_ties.proofs.Values.{add_times-at}
+use Rattle.outline_language.proofs.Values.{add_times-at}
 use Rattle.outline_language.specs.LinearForms.{Var, Multiple, LinearForm, add_multiples, of_name, form_of_term, multiples_at}
 
 -- ---- the multiples of a sum

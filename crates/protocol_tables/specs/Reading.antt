@@ -6,7 +6,7 @@ use Rattle.core_language.specs.Resources.{Equation}
 use Rattle.chan_syntax.specs.Reading.{term_of, ref_of as written_ref}
 use Rattle.chan_syntax.specs.declared.linear.Term.{Term}
 use Rattle.chan_syntax.specs.declared.resources.Ref.{Ref}
-use Rattle.outline_language.specs.Equations as equation
+use Rattle.outline_language.specs.Equations as equations
 use Rattle.outline_language.specs.Paths as path
 use Rattle.nameless_shapes.specs.Parts.{ref_of}
 use Rattle.protocol_tables.specs.Protocols as spec
@@ -18,9 +18,9 @@ use Rattle.protocol_tables.specs.declared.protocols.Step.{Step}
 use Rattle.protocol_tables.specs.declared.protocols.Step.TheVariants as step
 use Rattle.protocol_tables.specs.declared.protocols.Protocol.{Protocol}
 
-abbrev pub direction_of : Direction → equation.Direction
-direction_of direction.Sends = equation.Sends
-direction_of direction.Receives = equation.Receives
+abbrev pub direction_of : Direction → equations.Direction
+direction_of direction.Sends = equations.Sends
+direction_of direction.Receives = equations.Receives
 
 abbrev pub message_of : Message → path.Message
 message_of message = record { direction = direction_of message.direction; res = message.res }
@@ -40,10 +40,10 @@ abbrev pub protocol_of : Protocol → spec.Protocol
 protocol_of protocol = record { name = protocol.name; fork = fork_in protocol.step; message = message_in protocol.step }
 
 -- the `if` equation of these terms and references
-abbrev pub written_fork : Term → Term → Ref → Ref → equation.Fork
+abbrev pub written_fork : Term → Term → Ref → Ref → equations.Fork
 written_fork left right this other = record { left = term_of left; right = term_of right; this = written_ref this; other = written_ref other }
 
 -- the step of an equation of a protocol with these parameters
 pub record IsStep (params : List Ident) (equation : Equation) (s : Step) : Type 0 where
-  pub fork : fork_in s ≡ option_map (spec.fork_read params) (equation.fork_of equation)
-  pub message : message_in s ≡ option_map (spec.message_read params) (equation.written_message equation)
+  pub fork : fork_in s ≡ option_map (spec.fork_read params) (equations.fork_of equation)
+  pub message : message_in s ≡ option_map (spec.message_read params) (equations.written_message equation)
