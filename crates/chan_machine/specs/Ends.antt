@@ -1,5 +1,5 @@
 -- Which ends a configuration has.
-use Rattle.std.specs.Prelude.{◌≡◌, ℕ, nat_eq, Option, Some}
+use Rattle.std.specs.Prelude.{◌≡◌, true, nat_eq, Option, Some}
 use Rattle.std.specs.Ordering.{nat_cmp}
 use Rattle.std.specs.Cmp.Lexicographic.{slice_cmp}
 use Rattle.std.specs.BTreeMap.{BTreeMap, get}
@@ -21,6 +21,10 @@ ChannelsPass test channels = (c : Name) (v : Value) → get (slice_cmp nat_cmp) 
 
 abbrev pub ConfigPasses : EndTest → Config → Type 0
 ConfigPasses test config = TasksPass test config.tasks × ChannelsPass test config.channels
+
+-- each end is an old one or has the cell 0
+abbrev pub NoNewCells : Config → Config → Type 0
+NoNewCells before after = (test : EndTest) → ((c : Name) → test c 0 ≡ true) → ConfigPasses test before → ConfigPasses test after
 
 -- the end has the cell 0
 abbrev pub has_no_cell : EndTest

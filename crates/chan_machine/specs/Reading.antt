@@ -1,8 +1,8 @@
 -- The machine's steps and configurations as the core language has them.
-use Rattle.std.specs.Prelude.{ℤ, List, map, Option, Some, None}
+use Rattle.std.specs.Prelude.{◌≡◌, ℕ, ℤ, List, map, Option, Some, None}
 use Rattle.std.specs.Ordering.{nat_cmp}
 use Rattle.std.specs.Cmp.Lexicographic.{slice_cmp}
-use Rattle.std.specs.FinMap.{from_entries}
+use Rattle.std.specs.FinMap.{from_entries, insert}
 use Rattle.std.specs.BTreeMap.{BTreeMap}
 use Rattle.std.specs.Option.{option_map}
 use Rattle.core_language.specs.Names.{Name, NameMap}
@@ -76,6 +76,14 @@ config_of parts config = record {
   channels = map_of (option_map value_as) config.channels;
   prints = prints_of config.prints;
 }
+
+-- the task with the name stands at the place now and has made so many forks; the others are as before
+abbrev pub MovesTo : Parts → BTreeMap Name Task → BTreeMap Name Task → Name → configuration.Place → ℕ → Type 0
+MovesTo program before after p place forks = map_of (task_of program.nodes) after ≡ insert (map_of (task_of program.nodes) before) p (record { place = place; forks = forks })
+
+-- each task stands where it stood and has made as many forks
+abbrev pub AreUnmoved : Parts → BTreeMap Name Task → BTreeMap Name Task → Type 0
+AreUnmoved program before after = map_of (task_of program.nodes) after ≡ map_of (task_of program.nodes) before
 
 -- the tasks, each under its name
 abbrev pub tasks_named : Parts → List Task → NameMap configuration.Task

@@ -1,21 +1,18 @@
 //! Sends, receives and forks of a configuration.
-ghost use Rattle.std.specs.Prelude.{◌≡◌, true, false, Some, None, IsSome, IfOk, OnOk, OnErr};
+ghost use Rattle.std.specs.Prelude.{◌≡◌, false, Some, None, IsSome, IfOk, OnOk, OnErr};
 ghost use Rattle.std.specs.Option.{option_map};
 ghost use Rattle.std.specs.Ordering.{nat_cmp};
 ghost use Rattle.std.specs.Cmp.Lexicographic.{slice_cmp};
 ghost use Rattle.std.specs.BTreeMap.{Updates, get as looked_up};
-ghost use Rattle.core_language.specs.Acts.{channel_in};
-ghost use Rattle.core_language.specs.Names.{Name as NameOf};
-ghost use Rattle.core_language.specs.Steps.{effect};
 ghost use Rattle.machine_values.specs.Cells.{EndTest};
 ghost use Rattle.machine_values.specs.Reading.{value_as};
 ghost use Rattle.machine_tasks.specs.declared.tasks.Task.{Task};
-ghost use Rattle.machine_tasks.specs.Kinds.{kind_of, Fork, Send, Recv};
-ghost use Rattle.machine_tasks.specs.Reading.{act_in};
+ghost use Rattle.machine_tasks.specs.Kinds.{Fork, Send, Recv};
 ghost use Rattle.machine_tasks.specs.Sharing.{IsFork, IsRecv, IsSend};
-ghost use Rattle.chan_machine.specs.Reading.{config_of, map_of, step_of};
-ghost use Rattle.chan_machine.specs.Ends.{ConfigPasses};
+ghost use Rattle.chan_machine.specs.Reading.{config_of, map_of};
+ghost use Rattle.chan_machine.specs.Ends.{ConfigPasses, NoNewCells};
 ghost use Rattle.chan_machine.specs.Fits.{ActsAt, Fits, ForksAt, RoomAt, is_moved};
+ghost use Rattle.chan_machine.specs.Looking.{AnswersAt, AnswersOn};
 
 use crate::configurations::Config;
 use crate::events::{Event, Stepped};
@@ -37,8 +34,7 @@ pub(crate) fn send(
     requires fits { Fits program.now config.old }
     requires there { IsSome (looked_up (slice_cmp nat_cmp) config.old.tasks name.now) }
     requires act { ActsAt IsSend program.now config.old.tasks name.now }
-    ensures value { IfOk result (λ s. (t : Task) → looked_up (slice_cmp nat_cmp) config.old.tasks name.now ≡ Some t → Send ≡ kind_of (act_in program.now t) → Some channel ≡ channel_in (act_in program.now t)
-        → effect (config_of program.now config.old) name.now t.forks (act_in program.now t) ≡ step_of (config_of program.now config.new) s) }
+    ensures value { IfOk result (λ s. AnswersOn Send program.now config.old config.new name.now channel s) }
     ensures still { IfOk result (λ s. is_moved s ≡ false → config_of program.now config.new ≡ config_of program.now config.old) }
     ensures err { OnErr result (config_of program.now config.new ≡ config_of program.now config.old) }
     ensures fits { Fits program.now config.new }
@@ -70,8 +66,7 @@ pub(crate) fn receive(
     requires there { IsSome (looked_up (slice_cmp nat_cmp) config.old.tasks name.now) }
     requires act { ActsAt IsRecv program.now config.old.tasks name.now }
     requires room { RoomAt config.old.tasks name.now }
-    ensures value { IfOk result (λ s. (t : Task) → looked_up (slice_cmp nat_cmp) config.old.tasks name.now ≡ Some t → Recv ≡ kind_of (act_in program.now t) → Some channel ≡ channel_in (act_in program.now t)
-        → effect (config_of program.now config.old) name.now t.forks (act_in program.now t) ≡ step_of (config_of program.now config.new) s) }
+    ensures value { IfOk result (λ s. AnswersOn Recv program.now config.old config.new name.now channel s) }
     ensures still { IfOk result (λ s. is_moved s ≡ false → config_of program.now config.new ≡ config_of program.now config.old) }
     ensures err { OnErr result (config_of program.now config.new ≡ config_of program.now config.old) }
     ensures fits { Fits program.now config.new }
@@ -153,12 +148,11 @@ pub(crate) fn fork(
     requires act { ActsAt IsFork program.now config.old.tasks name.now }
     requires room { RoomAt config.old.tasks name.now }
     requires forks { ForksAt config.old.tasks name.now }
-    ensures value { IfOk result (λ s. (t : Task) → looked_up (slice_cmp nat_cmp) config.old.tasks name.now ≡ Some t → Fork ≡ kind_of (act_in program.now t)
-        → effect (config_of program.now config.old) name.now t.forks (act_in program.now t) ≡ step_of (config_of program.now config.new) s) }
+    ensures value { IfOk result (λ s. AnswersAt Fork program.now config.old config.new name.now s) }
     ensures still { IfOk result (λ s. is_moved s ≡ false → config_of program.now config.new ≡ config_of program.now config.old) }
     ensures err { OnErr result (config_of program.now config.new ≡ config_of program.now config.old) }
     ensures fits { Fits program.now config.new }
-    ensures ends { OnOk result ((test : EndTest) → ((c : NameOf) → test c 0 ≡ true) → ConfigPasses test config.old → ConfigPasses test config.new) }
+    ensures ends { OnOk result (NoNewCells config.old config.new) }
 {
     let Some(task) = config.tasks.get(name) else {
         unreachable!();

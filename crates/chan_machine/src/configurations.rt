@@ -99,8 +99,10 @@ impl Config {
 
 /// Puts the task under its name.
 fn put_task(tasks: &mut BTreeMap<Name, Task>, task: Task) -> Result<(), Memory>
-    ensures tasks { OnOk result ((program : Parts) → map_of (task_of program.nodes) tasks.new ≡ insert (map_of (task_of program.nodes) tasks.old) task.name (task_of program.nodes task)) }
-    ensures fits { OnOk result ((program : Parts) → TasksFit program tasks.old → FramesFit program.nodes task.frames.items → TasksFit program tasks.new) }
+    ensures tasks { OnOk result ((program : Parts)
+        → map_of (task_of program.nodes) tasks.new ≡ insert (map_of (task_of program.nodes) tasks.old) task.name (task_of program.nodes task)) }
+    ensures fits { OnOk result ((program : Parts) → TasksFit program tasks.old
+        → FramesFit program.nodes task.frames.items → TasksFit program tasks.new) }
 {
     let name = task.name().copy()?;
     tasks.insert(name, task)?;
@@ -109,7 +111,8 @@ fn put_task(tasks: &mut BTreeMap<Name, Task>, task: Task) -> Result<(), Memory>
 
 /// Puts the channel under its name.
 fn put_channel(channels: &mut BTreeMap<Name, Option<Value>>, store: Store) -> Result<(), Memory>
-    ensures { OnOk result (map_of (option_map value_as) channels.new ≡ insert (map_of (option_map value_as) channels.old) store.name (option_map value_as store.value)) }
+    ensures { OnOk result (map_of (option_map value_as) channels.new
+        ≡ insert (map_of (option_map value_as) channels.old) store.name (option_map value_as store.value)) }
 {
     let Store { name, value } = store;
     channels.insert(name, value)?;

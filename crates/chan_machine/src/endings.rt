@@ -54,7 +54,8 @@ fn first(
     fault: Fault,
 ) -> Result<Option<Ending>, Memory>
     requires fits { Fits program.now config.now }
-    ensures { IfOk result (λ found. (other : EndingOf) → first_fault fault (program_of program.now) (config_of program.now config.now) names.now other ≡ or_else found other) }
+    ensures { IfOk result (λ found. (other : EndingOf)
+        → first_fault fault (program_of program.now) (config_of program.now config.now) names.now other ≡ or_else found other) }
 {
     for name in names.as_slice() {
         let stepped = look(alloc, program, config, name)?;
@@ -101,7 +102,8 @@ fn faulted(
     names: &Names,
 ) -> Result<Option<Ending>, Memory>
     requires fits { Fits program.now config.now }
-    ensures { IfOk result (λ found. (other : EndingOf) → faulted_or (program_of program.now) (config_of program.now config.now) names.now other ≡ or_else found other) }
+    ensures { IfOk result (λ found. (other : EndingOf)
+        → faulted_or (program_of program.now) (config_of program.now config.now) names.now other ≡ or_else found other) }
 {
     if let Some(ending) = first(alloc, program, config, names, Fault::Stuck)? {
         return Ok(Some(ending));

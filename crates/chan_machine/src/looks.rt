@@ -1,23 +1,22 @@
 //! What a step would answer, whether it moves, and at which channel it looks.
-ghost use Rattle.std.specs.Prelude.{◌≡◌, ℕ, true, Some, IfOk};
+ghost use Rattle.std.specs.Prelude.{◌≡◌, true, Some, IfOk};
 ghost use Rattle.std.specs.Option.{option_map};
 ghost use Rattle.std.specs.Ordering.{nat_cmp};
 ghost use Rattle.std.specs.Cmp.Lexicographic.{slice_cmp};
 ghost use Rattle.std.specs.BTreeMap.{get as looked_up};
 ghost use Rattle.core_language.specs.Names.{Name as NameOf};
-ghost use Rattle.core_language.specs.Acts.{Act as ActOf, channel_in};
+ghost use Rattle.core_language.specs.Acts.{channel_in};
 ghost use Rattle.core_language.specs.Configurations.{Config as ConfigOf};
-ghost use Rattle.core_language.specs.Steps.{Moves, Print, effect, machine_step};
+ghost use Rattle.core_language.specs.Steps.{Moves, Print, machine_step};
 ghost use Rattle.core_language.specs.Rounds.{moves};
 ghost use Rattle.core_programs.specs.Bodies.{program_of};
 ghost use Rattle.machine_rounds.specs.Local.{act_in};
-ghost use Rattle.machine_values.specs.Reading.{value_as};
-ghost use Rattle.machine_tasks.specs.Kinds.{kind_of, Send, Recv, kind_as};
+ghost use Rattle.machine_tasks.specs.Kinds.{Send, Recv, kind_as};
 ghost use Rattle.machine_tasks.specs.Fits.{FramesFit};
 ghost use Rattle.machine_tasks.specs.Reading.{act_in as task_act};
 ghost use Rattle.chan_machine.specs.Fits.{Fits, is_moved};
-ghost use Rattle.chan_machine.specs.Looking.{Answers};
-ghost use Rattle.chan_machine.specs.Reading.{config_of, map_of, step_of};
+ghost use Rattle.chan_machine.specs.Looking.{Answers, AnswersAlone};
+ghost use Rattle.chan_machine.specs.Reading.{config_of, step_of};
 ghost use Rattle.chan_machine.specs.Turning.{moves_with};
 
 use crate::configurations::Config;
@@ -30,7 +29,7 @@ use std::collections::BTreeMap;
 
 /// What a send on the channel would answer.
 fn look_send(channels: &BTreeMap<Name, Option<Value>>, channel: &Channel) -> Result<Stepped, Memory>
-    ensures { IfOk result (λ s. (C : ConfigOf) (p : NameOf) (k : ℕ) (a : ActOf) → C.channels ≡ map_of (option_map value_as) channels.now → Send ≡ kind_of a → Some channel.now.name ≡ channel_in a → Answers (effect C p k a) s) }
+    ensures { IfOk result (λ s. AnswersAlone Send channels.now channel.now.name s) }
 {
     match channels.get(&channel.name) {
         Some(None) => {
@@ -47,7 +46,7 @@ fn look_receive(
     channels: &BTreeMap<Name, Option<Value>>,
     channel: &Channel,
 ) -> Result<Stepped, Memory>
-    ensures { IfOk result (λ s. (C : ConfigOf) (p : NameOf) (k : ℕ) (a : ActOf) → C.channels ≡ map_of (option_map value_as) channels.now → Recv ≡ kind_of a → Some channel.now.name ≡ channel_in a → Answers (effect C p k a) s) }
+    ensures { IfOk result (λ s. AnswersAlone Recv channels.now channel.now.name s) }
 {
     let name = channel.name.copy()?;
     match channels.get(&channel.name) {
@@ -116,7 +115,8 @@ fn passes(act: &Act, found: Option<&Option<Value>>) -> bool
 /// What is on the channel at which the task's next act looks.
 fn found<'a>(program: &Program, config: &'a Config, task: &Task) -> Option<&'a Option<Value>>
     requires fits { FramesFit program.now.nodes task.now.frames.items }
-    ensures { (c : NameOf) → channel_in (task_act program.now task.now) ≡ Some c → option_map (λ stored. stored.now) result ≡ looked_up (slice_cmp nat_cmp) config.now.channels c }
+    ensures { (c : NameOf) → channel_in (task_act program.now task.now) ≡ Some c
+        → option_map (λ stored. stored.now) result ≡ looked_up (slice_cmp nat_cmp) config.now.channels c }
 {
     match task.channel(program) {
         Some(channel) => config.channels.get(&channel.name),

@@ -59,8 +59,10 @@ fn sort_out(
     name: Name,
 ) -> Result<(), Memory>
     requires fits { Fits program.now run.now.config }
-    ensures movers { OnOk result (movers.new.items ≡ movers.old.items ++ filter (moves (program_of program.now) (config_of program.now run.now.config)) (name ∷ [])) }
-    ensures parked { OnOk result ((rest : List NameOf) → Parked program.now run.now (λ q. has (slice_cmp nat_cmp) (name ∷ rest) q || has (slice_cmp nat_cmp) movers.old.items q) waiting.old
+    ensures movers { OnOk result (movers.new.items
+        ≡ movers.old.items ++ filter (moves (program_of program.now) (config_of program.now run.now.config)) (name ∷ [])) }
+    ensures parked { OnOk result ((rest : List NameOf)
+        → Parked program.now run.now (λ q. has (slice_cmp nat_cmp) (name ∷ rest) q || has (slice_cmp nat_cmp) movers.old.items q) waiting.old
         → Parked program.now run.now (λ q. has (slice_cmp nat_cmp) rest q || has (slice_cmp nat_cmp) movers.new.items q) waiting.new) }
 {
     if can_move(program, &run.config, &name) {
@@ -81,7 +83,8 @@ pub(crate) fn sift(
 ) -> Result<Vec<Name>, Memory>
     requires fits { Fits program.now run.now.config }
     requires parked { Parked program.now run.now (is_ready ready) waiting.old }
-    ensures movers { IfOk result (λ movers. movers.items ≡ filter (moves (program_of program.now) (config_of program.now run.now.config)) ready.keys) }
+    ensures movers { IfOk result (λ movers.
+        movers.items ≡ filter (moves (program_of program.now) (config_of program.now run.now.config)) ready.keys) }
     ensures parked { IfOk result (λ movers. Parked program.now run.now (has (slice_cmp nat_cmp) movers.items) waiting.new) }
 {
     let mut movers = Vec::new(alloc);

@@ -29,7 +29,8 @@ pub fn replay(alloc: Global, program: &Program, rounds: u64) -> Result<Replayed,
     requires rounds { rounds ≤ 1000000000 }
     ensures config { IfOk result (λ replayed. config_of program.now replayed.config ≡ (run_of (program_of program.now) rounds).config) }
     ensures entries { IfOk result (λ replayed. map entry_of replayed.entries ≡ (run_of (program_of program.now) rounds).entries) }
-    ensures ending { IfOk result (λ replayed. ending_as replayed.ending ≡ ending_of (program_of program.now) (run_of (program_of program.now) rounds).config) }
+    ensures ending { IfOk result (λ replayed. ending_as replayed.ending
+        ≡ ending_of (program_of program.now) (run_of (program_of program.now) rounds).config) }
     ensures fits { IfOk result (λ replayed. Fits program.now replayed.config) }
     ensures cells { IfOk result (λ replayed. IsOnOneThread replayed.config) }
 {

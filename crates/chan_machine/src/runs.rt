@@ -17,7 +17,14 @@ pub(crate) struct Run {
     pub(crate) entries: Entries,
 }
 
-/// Who may move, and who waits at which channel.
+/// Who may move, and who waits at which channel: every task that can make a step is ready, and any other
+/// one is ready, or waits at the channel at which its next act looks, or looks at none (`Parked`).
+///
+/// The ready tasks stand in the order of their names, each once. At the head of a round they all leave:
+/// who moves gets a turn in that order, and who doesn't waits at its channel from then on, or stands
+/// nowhere where its act looks at none, since no other task can move it. After its turn a task joins
+/// again. So does a task that was forked, and so do those that wait at the channel that a turn made,
+/// filled or took away; they leave the channel. Who joined moves in the next round and not in this one.
 #[derive(Drop)]
 pub(crate) struct Queue {
     pub(crate) ready: Ready,

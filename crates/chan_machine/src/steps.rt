@@ -2,7 +2,6 @@
 ghost use Rattle.std.specs.Prelude.{◌≡◌, ◌<◌, ◌++◌, ◌∷◌, [], suc, Some, IsSome, length, IfOk, OnOk, OnErr, ◌⊎◌, true, false};
 ghost use Rattle.std.specs.Ordering.{nat_cmp};
 ghost use Rattle.std.specs.Cmp.Lexicographic.{slice_cmp};
-ghost use Rattle.std.specs.FinMap.{insert};
 ghost use Rattle.std.specs.BTreeMap.{Updates, get as looked_up};
 ghost use Rattle.core_language.specs.Configurations.{start as start_of};
 ghost use Rattle.core_language.specs.Names.{Name as NameOf};
@@ -14,9 +13,10 @@ ghost use Rattle.machine_values.specs.Ends.{ValuePasses};
 ghost use Rattle.machine_values.specs.Reading.{value_as};
 ghost use Rattle.machine_tasks.specs.declared.tasks.Task.{Task};
 ghost use Rattle.machine_tasks.specs.Moving.{IsQuiet, at_node, place_after, place_with};
-ghost use Rattle.machine_tasks.specs.Reading.{act_in, place_of, task_of};
-ghost use Rattle.chan_machine.specs.Reading.{config_of, map_of, prints_of, step_of};
-ghost use Rattle.chan_machine.specs.Ends.{ConfigPasses, TasksPass};
+ghost use Rattle.machine_tasks.specs.Reading.{act_in};
+ghost use Rattle.machine_tasks.specs.Steps.{place_in};
+ghost use Rattle.chan_machine.specs.Reading.{AreUnmoved, MovesTo, config_of, prints_of, step_of};
+ghost use Rattle.chan_machine.specs.Ends.{ConfigPasses, NoNewCells, TasksPass};
 ghost use Rattle.chan_machine.specs.Fits.{ActsAt, Fits, ForksAt, RoomAt, TasksFit, IsHalt, is_moved};
 
 use crate::channels::{fork, receive, send};
@@ -56,8 +56,8 @@ pub(crate) fn advance(
     requires fits { TasksFit program.now tasks.old }
     requires act { ActsAt IsQuiet program.now tasks.old name.now }
     ensures ok { (t : Task) → looked_up (slice_cmp nat_cmp) tasks.old name.now ≡ Some t
-        → OnOk result (map_of (task_of program.now.nodes) tasks.new ≡ insert (map_of (task_of program.now.nodes) tasks.old) name.now (record { place = place_after (act_in program.now t); forks = t.forks })) }
-    ensures err { OnErr result (map_of (task_of program.now.nodes) tasks.new ≡ map_of (task_of program.now.nodes) tasks.old) }
+        → OnOk result (MovesTo program.now tasks.old tasks.new name.now (place_after (act_in program.now t)) t.forks) }
+    ensures err { OnErr result (AreUnmoved program.now tasks.old tasks.new) }
     ensures fits { TasksFit program.now tasks.new }
     ensures ends { (test : EndTest) → TasksPass test tasks.old → TasksPass test tasks.new }
 {
@@ -79,9 +79,9 @@ pub(crate) fn print(
     requires fits { TasksFit program.now tasks.old }
     requires act { ActsAt IsQuiet program.now tasks.old name.now }
     ensures ok { (t : Task) → looked_up (slice_cmp nat_cmp) tasks.old name.now ≡ Some t
-        → OnOk result (map_of (task_of program.now.nodes) tasks.new ≡ insert (map_of (task_of program.now.nodes) tasks.old) name.now (record { place = place_after (act_in program.now t); forks = t.forks })) }
+        → OnOk result (MovesTo program.now tasks.old tasks.new name.now (place_after (act_in program.now t)) t.forks) }
     ensures prints { OnOk result (prints_of prints.new ≡ prints_of prints.old ++ (name.now, number) ∷ []) }
-    ensures err { OnErr result (map_of (task_of program.now.nodes) tasks.new ≡ map_of (task_of program.now.nodes) tasks.old) }
+    ensures err { OnErr result (AreUnmoved program.now tasks.old tasks.new) }
     ensures unprinted { OnErr result (prints.new ≡ prints.old) }
     ensures fits { TasksFit program.now tasks.new }
     ensures ends { (test : EndTest) → TasksPass test tasks.old → TasksPass test tasks.new }
@@ -112,7 +112,7 @@ pub(crate) fn move_on(program: &Program, tasks: &mut BTreeMap<Name, Task>, name:
     requires node { node < length program.now.nodes }
     requires fits { TasksFit program.now tasks.old }
     ensures moves { (t : Task) → looked_up (slice_cmp nat_cmp) tasks.old name.now ≡ Some t
-        → map_of (task_of program.now.nodes) tasks.new ≡ insert (map_of (task_of program.now.nodes) tasks.old) name.now (record { place = at_node program.now.nodes node (place_of program.now.nodes t.frames.items); forks = t.forks }) }
+        → MovesTo program.now tasks.old tasks.new name.now (at_node program.now.nodes node (place_in program.now t)) t.forks }
     ensures fits { TasksFit program.now tasks.new }
     ensures ends { (test : EndTest) → TasksPass test tasks.old → TasksPass test tasks.new }
 {
@@ -123,7 +123,7 @@ pub(crate) fn move_on(program: &Program, tasks: &mut BTreeMap<Name, Task>, name:
 
 /// Room for one more variable in the top frame of the task with this name.
 pub(crate) fn make_room(tasks: &mut BTreeMap<Name, Task>, name: &Name) -> Result<(), Memory>
-    ensures same { (program : Parts) → map_of (task_of program.nodes) tasks.new ≡ map_of (task_of program.nodes) tasks.old }
+    ensures same { (program : Parts) → AreUnmoved program tasks.old tasks.new }
     ensures room { OnOk result (RoomAt tasks.new name.now) }
     ensures forks { ForksAt tasks.old name.now → ForksAt tasks.new name.now }
     ensures fits { (program : Parts) → TasksFit program tasks.old → TasksFit program tasks.new }
@@ -147,7 +147,8 @@ pub(crate) fn accept(
     requires room { RoomAt tasks.old name.now }
     requires fits { TasksFit program.now tasks.old }
     ensures moves { (t : Task) → looked_up (slice_cmp nat_cmp) tasks.old name.now ≡ Some t
-        → map_of (task_of program.now.nodes) tasks.new ≡ insert (map_of (task_of program.now.nodes) tasks.old) name.now (record { place = place_with program.now.nodes bind.name (value_as bind.value) node (place_of program.now.nodes t.frames.items); forks = t.forks }) }
+        → MovesTo program.now tasks.old tasks.new name.now
+        (place_with program.now.nodes bind.name (value_as bind.value) node (place_in program.now t)) t.forks }
     ensures fits { TasksFit program.now tasks.new }
     ensures ends { (test : EndTest) → ValuePasses test bind.value → TasksPass test tasks.old → TasksPass test tasks.new }
 {
@@ -169,7 +170,8 @@ pub(crate) fn branch(
     requires forks { ForksAt tasks.old name.now }
     requires fits { TasksFit program.now tasks.old }
     ensures moves { (t : Task) → looked_up (slice_cmp nat_cmp) tasks.old name.now ≡ Some t
-        → map_of (task_of program.now.nodes) tasks.new ≡ insert (map_of (task_of program.now.nodes) tasks.old) name.now (record { place = place_with program.now.nodes end.name (value_as end.value) node (place_of program.now.nodes t.frames.items); forks = suc t.forks }) }
+        → MovesTo program.now tasks.old tasks.new name.now
+        (place_with program.now.nodes end.name (value_as end.value) node (place_in program.now t)) (suc t.forks) }
     ensures fits { TasksFit program.now tasks.new }
     ensures ends { (test : EndTest) → ValuePasses test end.value → TasksPass test tasks.old → TasksPass test tasks.new }
 {
@@ -188,11 +190,12 @@ fn make_step(
     requires fits { Fits program.now config.old }
     requires room { RoomAt config.old.tasks name.now }
     requires forks { ForksAt config.old.tasks name.now }
-    ensures value { IfOk result (λ s. machine_step (program_of program.now) (config_of program.now config.old) name.now ≡ step_of (config_of program.now config.new) s) }
+    ensures value { IfOk result (λ s. machine_step (program_of program.now) (config_of program.now config.old) name.now
+        ≡ step_of (config_of program.now config.new) s) }
     ensures still { IfOk result (λ s. is_moved s ≡ false → config_of program.now config.new ≡ config_of program.now config.old) }
     ensures err { OnErr result (config_of program.now config.new ≡ config_of program.now config.old) }
     ensures fits { Fits program.now config.new }
-    ensures ends { OnOk result ((test : EndTest) → ((c : NameOf) → test c 0 ≡ true) → ConfigPasses test config.old → ConfigPasses test config.new) }
+    ensures ends { OnOk result (NoNewCells config.old config.new) }
 {
     let Some(task) = config.tasks.get(name) else {
         return Ok(Stepped::Absent);
@@ -247,8 +250,10 @@ pub fn step(
 ) -> Result<Stepped, Memory>
     requires fits { Fits program.now config.old }
     requires forks { ForksAt config.old.tasks name.now }
-    ensures value { IfOk result (λ s. machine_step (program_of program.now) (config_of program.now config.old) name.now ≡ step_of (config_of program.now config.new) s) }
-    ensures limits { IfOk result (λ s. IsHalt s ⊎ (step_without_limits (program_of program.now) (config_of program.now config.old) name.now ≡ step_of (config_of program.now config.new) s)) }
+    ensures value { IfOk result (λ s. machine_step (program_of program.now) (config_of program.now config.old) name.now
+        ≡ step_of (config_of program.now config.new) s) }
+    ensures limits { IfOk result (λ s. IsHalt s ⊎ (step_without_limits (program_of program.now) (config_of program.now config.old) name.now
+        ≡ step_of (config_of program.now config.new) s)) }
     ensures still { IfOk result (λ s. is_moved s ≡ false → config_of program.now config.new ≡ config_of program.now config.old) }
     ensures err { OnErr result (config_of program.now config.new ≡ config_of program.now config.old) }
     ensures fits { Fits program.now config.new }

@@ -79,9 +79,11 @@ fn turn(
     requires fits { Fits program.now run.old.config }
     requires forks { ForksAt run.old.config.tasks name }
     ensures turn { OnOk result (run_as program.now run.new ≡ turn_of (program_of program.now) time (run_as program.now run.old) name) }
-    ensures parked { OnOk result ((rest : List NameOf) → ParkedBut program.now run.old (name ∷ rest) queue.old → ParkedBut program.now run.new rest queue.new) }
+    ensures parked { OnOk result ((rest : List NameOf)
+        → ParkedBut program.now run.old (name ∷ rest) queue.old → ParkedBut program.now run.new rest queue.new) }
     ensures forks { OnOk result ((n : ℕ) (rest : List NameOf) → has (slice_cmp nat_cmp) rest name ≡ false
-        → ForksWithin n (config_of program.now run.old.config).tasks (name ∷ rest) → ForksWithin n (config_of program.now run.new.config).tasks rest) }
+        → ForksWithin n (config_of program.now run.old.config).tasks (name ∷ rest)
+        → ForksWithin n (config_of program.now run.new.config).tasks rest) }
     ensures fits { Fits program.now run.new.config }
     ensures cells { OnOk result (IsOnOneThread run.old.config → IsOnOneThread run.new.config) }
 {
@@ -110,7 +112,8 @@ pub(crate) fn run_turns(
     requires fits { Fits program.now run.old.config }
     requires forks { ForksWithin before (config_of program.now run.old.config).tasks movers.items }
     requires parked { ParkedBut program.now run.old movers.items queue.old }
-    ensures turns { OnOk result (run_as program.now run.new ≡ turns_of (program_of program.now) (before + 1) (run_as program.now run.old) movers.items) }
+    ensures turns { OnOk result (run_as program.now run.new
+        ≡ turns_of (program_of program.now) (before + 1) (run_as program.now run.old) movers.items) }
     ensures parked { OnOk result (ParkedBut program.now run.new [] queue.new) }
     ensures forks { OnOk result (ForksWithin before (config_of program.now run.new.config).tasks []) }
     ensures fits { OnOk result (Fits program.now run.new.config) }
