@@ -12,7 +12,7 @@ use Rattle.core_language.specs.Configurations.{Config, Place}
 use Rattle.core_language.specs.Configurations as core
 use Rattle.core_language.specs.Acts.{Act, act_of, channel_in}
 use Rattle.core_language.specs.Acts as act
-use Rattle.core_language.specs.Steps.{Step, Moves, Waits, IsEnded, IsAbsent, IsHalted, IsStuck, Silent, Print, End, with_task, sent, received, forked, effect, step_at, machine_step}
+use Rattle.core_language.specs.Steps.{Step, Moves, Waits, IsEnded, IsAbsent, IsHalted, IsStuck, Silent, Print, End, with_task, sent, received, effect, step_at, machine_step}
 use Rattle.core_language.specs.Steps as step
 use Rattle.core_programs.specs.declared.nodes.Parts.{Parts}
 use Rattle.core_programs.specs.Bodies.{program_of}
@@ -25,6 +25,9 @@ use Rattle.machine_tasks.specs.Moving.{place_after}
 use Rattle.machine_tasks.specs.Reading.{act_in, place_of, task_of}
 use Rattle.chan_machine.specs.declared.events.Stepped.{Stepped}
 use Rattle.chan_machine.specs.Reading.{map_of, step_of}
+use Rattle.task_tables.specs.Tables.{tasks_of}
+use Rattle.task_tables.proofs.Reading.{get-tasks_of}
+use Rattle.task_tables.proofs.Putting.{one_task}
 use Rattle.chan_machine.proofs.Maps.{get-map_of}
 use Rattle.chan_machine.proofs.Keeping.{put_swapped}
 
@@ -123,18 +126,18 @@ module _ (C : Config) (p : Name) (k : ℕ) where
   recv_effect (act.IsHalted why) c o is at got = cc
   recv_effect (act.IsStuck why) c o is at got = cc
 
-module _ (program : Parts) (tasks : BTreeMap Name Task) (channels : NameMap (Option Value)) (prints : List (Name × ℤ)) (p : Name) where
+module _ (program : Parts) (tasks : NameMap Task) (channels : NameMap (Option Value)) (prints : List (Name × ℤ)) (p : Name) where
   abbrev C : Config
-  C = record { tasks = map_of (task_of program.nodes) tasks; channels = channels; prints = prints }
+  C = record { tasks = tasks_of program tasks; channels = channels; prints = prints }
 
   -- the step of a task that is there
-  pub steps_here : (t : Task) → looked_up (slice_cmp nat_cmp) tasks p ≡ Some t → t.name ≡ p → machine_step (program_of program) C p ≡ effect C p t.forks (act_in program t)
+  pub steps_here : (t : Task) → get tasks p ≡ Some t → t.name ≡ p → machine_step (program_of program) C p ≡ effect C p t.forks (act_in program t)
   steps_here t found named =
-      ap (step_at machine (program_of program) C p) (get-map_of (task_of program.nodes) tasks p ∙ ap (option_map (task_of program.nodes)) found)
+      ap (step_at machine (program_of program) C p) (get-tasks_of program tasks p ∙ ap (option_map (task_of program.nodes)) found)
       ∙ ap (λ q. effect C p t.forks (act_of machine (program_of program) q t.forks (place_of program.nodes t.frames.items))) (sym named)
 
-  pub steps_absent : looked_up (slice_cmp nat_cmp) tasks p ≡ None → machine_step (program_of program) C p ≡ IsAbsent
-  steps_absent none = ap (step_at machine (program_of program) C p) (get-map_of (task_of program.nodes) tasks p ∙ ap (option_map (task_of program.nodes)) none)
+  pub steps_absent : get tasks p ≡ None → machine_step (program_of program) C p ≡ IsAbsent
+  steps_absent none = ap (step_at machine (program_of program) C p) (get-tasks_of program tasks p ∙ ap (option_map (task_of program.nodes)) none)
 
 module _ (C : Config) (p : Name) (k : ℕ) (a : Act) where
   pub sends_to : (c n : Name) → kind.Send ≡ kind_of a → Some c ≡ channel_in a → get C.channels c ≡ Some None → n ≡ c → (after : Config) × (effect C p k a ≡ Moves after (step.Send n))
@@ -209,10 +212,6 @@ module _ (C : Config) (p : Name) (k : ℕ) (a : Act) (tasks : NameMap core.Task)
       ∙ ap (λ x. Moves (record { tasks = tasks; channels = x; prints = C.prints }) (step.Fork c)) (sym cs)
       ∙ ap (λ x. Moves (record { tasks = tasks; channels = channels; prints = C.prints }) (step.Fork x)) (sym same)
 
--- one task is found under a name
-pub one_task : (m : BTreeMap Name Task) (p : Name) (t u : Task) → looked_up (slice_cmp nat_cmp) m p ≡ Some t → looked_up (slice_cmp nat_cmp) m p ≡ Some u → t ≡ u
-one_task m p t u one two = let both = sym one ∙ two in cc
-
 -- the effect of an act that prints the number, as it was made
 pub prints_now : (C : Config) (p : Name) (k : ℕ) (a : Act) (tasks : NameMap core.Task) (puts : List (Name × ℤ)) (z w y : ℤ) (s : Stepped) → kind.Print z ≡ kind_of a
     → tasks ≡ insert C.tasks p (record { place = place_after a; forks = k }) → puts ≡ C.prints ++ (p, w) ∷ [] → ((D : Config) → step_of D s ≡ Moves D (Print y)) → z ≡ w → z ≡ y
@@ -246,6 +245,6 @@ receives_somewhere (act.IsHalted why) is none = cc
 receives_somewhere (act.IsStuck why) is none = cc
 
 -- of one task what is said of its next act holds under its name
-pub acts_here : (P : Act → Type 0) (program : Parts) (m : BTreeMap Name Task) (p : Name) (t : Task) → looked_up (slice_cmp nat_cmp) m p ≡ Some t → P (act_in program t)
-    → (u : Task) → looked_up (slice_cmp nat_cmp) m p ≡ Some u → P (act_in program u)
+pub acts_here : (P : Act → Type 0) (program : Parts) (m : NameMap Task) (p : Name) (t : Task) → get m p ≡ Some t → P (act_in program t)
+    → (u : Task) → get m p ≡ Some u → P (act_in program u)
 acts_here P program m p t found holds u there = subst (λ x. P (act_in program x)) (one_task m p t u found there) holds

@@ -1,20 +1,25 @@
 -- The names in a map, in order.
-use Rattle.std.proofs.Common.{◌≡◌, not, filter, reverse, cond, Bool, true, false, ◌&&◌, List, [], ◌∷◌, ◌++◌, append_assoc, map, T, Ordering, Less, Equal, Greater, refl, ap, sym, ◌∙◌}
+use Rattle.std.proofs.Common.{◌≡◌, not, filter, reverse, cond, Bool, true, false, ◌&&◌, Some, List, [], ◌∷◌, map, T, Ordering, Less, Equal, Greater, refl, ap, sym, ◌∙◌}
 use Rattle.std.proofs.lemmas.List.{reverse-reverse}
-use Rattle.std.specs.Ordering.{nat_cmp, is_lt}
-use Rattle.std.specs.Cmp.Lexicographic.{slice_cmp}
-use Rattle.std.specs.FinMap.{entries, keys, is_sorted}
+use Rattle.std.specs.Ordering.{nat_cmp, is_eq, is_lt}
+use Rattle.std.specs.Cmp.Lexicographic.{slice_cmp, nat_list_cmp_total}
+use Rattle.std.proofs.lemmas.Cmp.{eq_by_cmp_equiv}
+use Rattle.std.specs.FinMap.{entries, entries_sorted, find, get, get-entries, keys, is_sorted}
 use Rattle.std.specs.FinMap.Entries.{below_all}
 use Rattle.std.specs.List.{AllByRecursion}
 use Rattle.std.specs.List.Sorted.{IsStrictlySortedBy}
 use Rattle.std.specs.BTreeMap.{BTreeMap}
-use Rattle.core_language.specs.Names.{Name}
+use Rattle.core_language.specs.Names.{Name, NameMap}
+use Rattle.core_programs.specs.declared.nodes.Parts.{Parts}
+use Rattle.machine_rounds.proofs.Rounded.{same-self}
+use Rattle.task_tables.specs.Tables.{goes_on, tasks_of}
+use Rattle.task_tables.proofs.Reading.{entries-tasks_of}
 use Rattle.core_language.specs.Configurations as core
 use Rattle.core_language.specs.Endings.{is_ended, is_nil, unended}
 use Rattle.core_programs.specs.declared.nodes.Node.{Node}
 use Rattle.machine_tasks.specs.declared.tasks.Frame.{Frame}
 use Rattle.machine_tasks.specs.declared.tasks.Task.{Task}
-use Rattle.machine_tasks.specs.Reading.{place_from, place_of, task_of}
+use Rattle.machine_tasks.specs.Reading.{place_from, task_of}
 use Rattle.chan_machine.specs.Reading.{map_of, read_entry}
 use Rattle.chan_machine.proofs.Maps.{entries-in_order}
 
@@ -53,31 +58,73 @@ module _ {X Y : Type 0} (f : X → Y) where
 
 -- ---- tasks that have not ended
 
-abbrev pub unended_in : List Node → List (Name × Task) → List Name
-unended_in nodes es = map (λ e. e.0) (filter (λ e. not (is_ended e.1.place)) (map (read_entry (task_of nodes)) es))
+first : (a b : Bool) → T (a && b) → T a
+first true b h = tt
+first false b h = absurd h
+
+second : (a b : Bool) → T (a && b) → T b
+second true b h = h
+second false b h = absurd h
+
+not_equal : (o : Ordering) → T (is_lt o) → is_eq o ≡ false
+not_equal Less h = refl
+not_equal Equal h = absurd h
+not_equal Greater h = absurd h
+
+abbrev AreIn : List (Name × Task) → List (Name × Task) → Type 0
+AreIn all es = AllByRecursion (λ e. find (slice_cmp nat_cmp) e.0 all ≡ Some e.1) es
+
+found_behind : (d : Name × Task) (all es : List (Name × Task)) → T (below_all (slice_cmp nat_cmp) d.0 es) → AreIn all es → AreIn (d ∷ all) es
+found_behind d all [] below found = tt
+found_behind d all (e ∷ es) below found = (
+  ap (λ b. cond b (Some d.1) (find (slice_cmp nat_cmp) e.0 all)) ((eq_by_cmp_equiv nat_list_cmp_total).symm e.0 d.0
+      ∙ not_equal (slice_cmp nat_cmp d.0 e.0) (first (is_lt (slice_cmp nat_cmp d.0 e.0)) (below_all (slice_cmp nat_cmp) d.0 es) below)) ∙ found.0,
+  found_behind d all es (second (is_lt (slice_cmp nat_cmp d.0 e.0)) (below_all (slice_cmp nat_cmp) d.0 es) below) found.1,
+)
+
+all_found : (es : List (Name × Task)) → T (is_sorted (slice_cmp nat_cmp) es) → AreIn es es
+all_found [] sorted = tt
+all_found (e ∷ es) sorted = (
+  ap (λ b. cond b (Some e.1) (find (slice_cmp nat_cmp) e.0 es)) (same-self e.0),
+  found_behind e es es (first (below_all (slice_cmp nat_cmp) e.0 es) (is_sorted (slice_cmp nat_cmp) es) sorted)
+      (all_found es (second (below_all (slice_cmp nat_cmp) e.0 es) (is_sorted (slice_cmp nat_cmp) es) sorted)),
+)
+
+nil_reversed : (fs : List Frame) → is_nil (reverse fs) ≡ is_nil fs
+nil_reversed fs = by fs (reverse fs) (reverse-reverse fs) refl
+  where
+    by : (gs hs : List Frame) → reverse hs ≡ gs → reverse gs ≡ hs → is_nil hs ≡ is_nil gs
+    by [] [] e f = refl
+    by [] (h ∷ hs) e f = cc
+    by (g ∷ gs) [] e f = cc
+    by (g ∷ gs) (h ∷ hs) e f = refl
 
 ended_from : (nodes : List Node) (fs : List Frame) → is_ended (place_from nodes fs) ≡ is_nil fs
 ended_from nodes [] = refl
 ended_from nodes (f ∷ fs) = refl
 
-pub ended_none : (nodes : List Node) (fs : List Frame) → fs ≡ [] → is_ended (place_of nodes fs) ≡ true
-ended_none nodes fs none = ap (λ gs. is_ended (place_of nodes gs)) none
+module _ (program : Parts) (m : NameMap Task) where
+  abbrev read : Name × Task → Name × core.Task
+  read e = (e.0, task_of program.nodes e.1)
 
-pub ended_some : (nodes : List Node) (fs : List Frame) → ¬ (fs ≡ []) → is_ended (place_of nodes fs) ≡ false
-ended_some nodes fs some = ended_from nodes (reverse fs) ∙ by (reverse fs) refl
-  where
-    by : (gs : List Frame) → reverse fs ≡ gs → is_nil gs ≡ false
-    by [] is = absurd (some (sym (reverse-reverse fs) ∙ ap reverse is))
-    by (g ∷ gs) is = refl
+  unended_among : (es : List (Name × Task)) → AreIn (entries m) es
+      → filter (λ p. goes_on (get m p)) (map (λ e. e.0) es) ≡ map (λ e. e.0) (filter (λ e. not (is_ended e.1.place)) (map read es))
+  unended_among [] found = refl
+  unended_among (e ∷ es) found =
+      ap (λ b. cond b (e.0 ∷ mine) mine) (ap goes_on (get-entries m e.0 ∙ found.0)) ∙ by (not (is_nil e.1.frames.items)) (unended_among es found.1)
+      ∙ sym (ap (λ b. map (λ d. d.0) (cond (not b) (read e ∷ its) its)) (ended_from program.nodes (reverse e.1.frames.items) ∙ nil_reversed e.1.frames.items))
+    where
+      mine : List Name
+      mine = filter (λ p. goes_on (get m p)) (map (λ d. d.0) es)
 
--- one more task that has not ended
-pub unended_more : (nodes : List Node) (e : Name × Task) (copy : Name) (before names all : List Name) (es : List (Name × Task)) → before ++ unended_in nodes (e ∷ es) ≡ all
-    → copy ≡ e.0 → is_ended (place_of nodes e.1.frames.items) ≡ false → names ≡ before ++ copy ∷ [] → names ++ unended_in nodes es ≡ all
-unended_more nodes e copy before names all es so same runs more =
-    let some = unended_in nodes es in
-    let first : unended_in nodes (e ∷ es) ≡ e.0 ∷ some = ap (λ b. map (λ d. d.0) (cond (not b) ((e.0, task_of nodes e.1) ∷ filter (λ d. not (is_ended d.1.place)) (map (read_entry (task_of nodes)) es)) (filter (λ d. not (is_ended d.1.place)) (map (read_entry (task_of nodes)) es)))) runs in
-    ap (λ ns. ns ++ some) more ∙ append_assoc before (copy ∷ []) some ∙ ap (λ c. before ++ c ∷ some) same ∙ ap (λ ns. before ++ ns) (sym first) ∙ so
+      its : List (Name × core.Task)
+      its = filter (λ d. not (is_ended d.1.place)) (map read es)
 
-pub unended_read : (nodes : List Node) (m : BTreeMap Name Task) (C : core.Config) → IsStrictlySortedBy (slice_cmp nat_cmp) (map (λ e. e.0) m.entries) → C.tasks ≡ map_of (task_of nodes) m → unended_in nodes m.entries ≡ unended C
-unended_read nodes m C ordered reads =
-    ap (λ es. map (λ e. e.0) (filter (λ e. not (is_ended e.1.place)) es)) (sym (ap entries reads ∙ entries_read (task_of nodes) m ordered))
+      by : (b : Bool) → mine ≡ map (λ d. d.0) its → cond b (e.0 ∷ mine) mine ≡ map (λ d. d.0) (cond b (read e ∷ its) its)
+      by true h = ap (λ ns. e.0 ∷ ns) h
+      by false h = h
+
+  pub unended_is : (C : core.Config) → C.tasks ≡ tasks_of program m → filter (λ p. goes_on (get m p)) (keys m) ≡ unended C
+  unended_is C reads =
+      unended_among (entries m) (all_found (entries m) (entries_sorted m))
+      ∙ ap (λ (es : List (Name × core.Task)). map (λ e. e.0) (filter (λ e. not (is_ended e.1.place)) es)) (sym (entries-tasks_of program m) ∙ sym (ap entries reads))

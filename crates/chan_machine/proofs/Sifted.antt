@@ -26,11 +26,12 @@ use Rattle.machine_tasks.specs.Kinds.{kind_of}
 use Rattle.machine_tasks.specs.Reading.{act_in, place_of, task_of}
 use Rattle.chan_machine.specs.declared.configurations.Config.{Config as Machine}
 use Rattle.chan_machine.specs.declared.runs.Run.{Run}
+use Rattle.chan_machine.specs.declared.runs.Seat.{Seat}
 use Rattle.chan_machine.specs.Reading.{config_of, map_of, prints_of}
 use Rattle.chan_machine.specs.Parking.{waits}
 use Rattle.chan_machine.specs.Turning.{moves_with, run_as, Parked}
 use Rattle.chan_machine.proofs.Effects.{steps_here, steps_absent, channel_has}
-use Rattle.chan_machine.proofs.Maps.{get-map_of}
+use Rattle.task_tables.proofs.Reading.{get-tasks_of}
 use Rattle.chan_machine.proofs.Parked.{any-push, same-is, same-self}
 
 moves_by : (C : Config) (p : Name) (k : ℕ) (a : Act) (found : Option (Option Value)) → ((c : Name) → channel_in a ≡ Some c → get C.channels c ≡ option_map (option_map value_as) found)
@@ -59,26 +60,26 @@ module _ (program : Parts) (config : Machine) (p : Name) where
   abbrev C : Config
   C = config_of program config
 
-  pub moves_here : (t : Task) (found : Option (Option Value)) → looked_up (slice_cmp nat_cmp) config.tasks p ≡ Some t → t.name ≡ p
+  pub moves_here : (t : Task) (found : Option (Option Value)) → get config.tasks p ≡ Some t → t.name ≡ p
       → ((c : Name) → channel_in (act_in program t) ≡ Some c → found ≡ looked_up (slice_cmp nat_cmp) config.channels c) → moves_with (kind_of (act_in program t)) found ≡ moves_in (program_of program) (record { config = C; entries = [] }) p
   moves_here t found there named has_it = moves_by C p t.forks (act_in program t) found (λ c e. channel_has C config.channels c found refl (sym (has_it c e)))
       ∙ ap is_move (sym (steps_here program config.tasks (map_of (option_map value_as) config.channels) (prints_of config.prints) p t there named))
 
-  pub moves_absent : looked_up (slice_cmp nat_cmp) config.tasks p ≡ None → false ≡ moves_in (program_of program) (record { config = C; entries = [] }) p
+  pub moves_absent : get config.tasks p ≡ None → false ≡ moves_in (program_of program) (record { config = C; entries = [] }) p
   moves_absent none = ap is_move (sym (steps_absent program config.tasks (map_of (option_map value_as) config.channels) (prints_of config.prints) p none))
 
-  pub looks_here : (t : Task) → looked_up (slice_cmp nat_cmp) config.tasks p ≡ Some t → t.name ≡ p → channel_in (act_in program t) ≡ channel_in (local.act_in (program_of program) C p)
+  pub looks_here : (t : Task) → get config.tasks p ≡ Some t → t.name ≡ p → channel_in (act_in program t) ≡ channel_in (local.act_in (program_of program) C p)
   looks_here t there named = ap (λ q. channel_in (act_of machine (program_of program) q t.forks (place_of program.nodes t.frames.items))) named
-      ∙ ap (λ o. channel_in (act_at (program_of program) p o)) (sym (get-map_of (task_of program.nodes) config.tasks p ∙ ap (option_map (task_of program.nodes)) there))
+      ∙ ap (λ o. channel_in (act_at (program_of program) p o)) (sym (get-tasks_of program config.tasks p ∙ ap (option_map (task_of program.nodes)) there))
 
-  pub looks_absent : looked_up (slice_cmp nat_cmp) config.tasks p ≡ None → None ≡ channel_in (local.act_in (program_of program) C p)
-  looks_absent none = ap (λ o. channel_in (act_at (program_of program) p o)) (sym (get-map_of (task_of program.nodes) config.tasks p ∙ ap (option_map (task_of program.nodes)) none))
+  pub looks_absent : get config.tasks p ≡ None → None ≡ channel_in (local.act_in (program_of program) C p)
+  looks_absent none = ap (λ o. channel_in (act_at (program_of program) p o)) (sym (get-tasks_of program config.tasks p ∙ ap (option_map (task_of program.nodes)) none))
 
 module _ (program : Parts) (run : Run) (name : Name) (rest movers : List Name) where
-  abbrev Before : BTreeMap Name (Vec Name) → Type 0
+  abbrev Before : BTreeMap Name (Vec Seat) → Type 0
   Before waiting = Parked program run (λ q. has (slice_cmp nat_cmp) (name ∷ rest) q || has (slice_cmp nat_cmp) movers q) waiting
 
-  pub sorted_mover : (next : List Name) (waiting : BTreeMap Name (Vec Name)) → next ≡ movers ++ name ∷ [] → Before waiting → Parked program run (λ q. has (slice_cmp nat_cmp) rest q || has (slice_cmp nat_cmp) next q) waiting
+  pub sorted_mover : (next : List Name) (waiting : BTreeMap Name (Vec Seat)) → next ≡ movers ++ name ∷ [] → Before waiting → Parked program run (λ q. has (slice_cmp nat_cmp) rest q || has (slice_cmp nat_cmp) next q) waiting
   sorted_mover next waiting pushed parked q dead = parked q (by (has (slice_cmp nat_cmp) rest q) (has (slice_cmp nat_cmp) movers q) (same_name q name)
       (ap (λ b. has (slice_cmp nat_cmp) rest q || b) (sym (ap (λ xs. has (slice_cmp nat_cmp) xs q) pushed ∙ any-push q name movers)) ∙ dead))
     where
@@ -91,7 +92,7 @@ module _ (program : Parts) (run : Run) (name : Name) (rest movers : List Name) w
           by_last true e = e
           by_last false e = e
 
-  abbrev After : BTreeMap Name (Vec Name) → Type 0
+  abbrev After : BTreeMap Name (Vec Seat) → Type 0
   After waiting = Parked program run (λ q. has (slice_cmp nat_cmp) rest q || has (slice_cmp nat_cmp) movers q) waiting
 
   out : (q : Name) → (has (slice_cmp nat_cmp) rest q || has (slice_cmp nat_cmp) movers q) ≡ false
@@ -105,13 +106,13 @@ module _ (program : Parts) (run : Run) (name : Name) (rest movers : List Name) w
   abbrev Still : Type 0
   Still = moves_in (program_of program) (run_as program run) name ≡ false
 
-  pub sorted_out : (waiting : BTreeMap Name (Vec Name)) → Still → looks_at (program_of program) (run_as program run) name ≡ None → Before waiting → After waiting
+  pub sorted_out : (waiting : BTreeMap Name (Vec Seat)) → Still → looks_at (program_of program) (run_as program run) name ≡ None → Before waiting → After waiting
   sorted_out waiting still nowhere parked = parked_more (moves_in (program_of program)) (looks_at (program_of program)) (run_as program run) name _ _ (waits waiting) (waits waiting) still (λ c e. no c e) out (λ c q w. w) parked
     where
       no : (c : Name) → looks_at (program_of program) (run_as program run) name ≡ Some c → waits waiting c name ≡ true
       no c e = let both = sym nowhere ∙ e in cc
 
-  pub sorted_waiting : (waiting later : BTreeMap Name (Vec Name)) (channel : Name) → Still → looks_at (program_of program) (run_as program run) name ≡ Some channel
+  pub sorted_waiting : (waiting later : BTreeMap Name (Vec Seat)) (channel : Name) → Still → looks_at (program_of program) (run_as program run) name ≡ Some channel
       → ((c q : Name) → waits later c q ≡ (waits waiting c q || (same_name c channel && same_name q name))) → Before waiting → After later
   sorted_waiting waiting later channel still at put parked =
       parked_more (moves_in (program_of program)) (looks_at (program_of program)) (run_as program run) name _ _ (waits waiting) (waits later) still here out (λ c q w. put c q ∙ early (waits waiting c q) _ w) parked

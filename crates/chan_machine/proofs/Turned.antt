@@ -3,10 +3,8 @@ use Rattle.std.proofs.Common.{◌≡◌, ◌<◌, ◌≤◌, ℕ, Bool, true, fa
 use Rattle.std.specs.Option.{option_map}
 use Rattle.std.specs.Ordering.{nat_cmp}
 use Rattle.std.specs.Cmp.Lexicographic.{slice_cmp}
-use Rattle.std.specs.BTreeSet.{BTreeSet}
-use Rattle.std.specs.BTreeSet as set
 use Rattle.std.specs.Global.{Vec}
-use Rattle.std.specs.BTreeMap.{BTreeMap}
+use Rattle.std.specs.BTreeMap.{BTreeMap, Updates}
 use Rattle.core_language.specs.Names.{Name, same_name}
 use Rattle.core_language.specs.Configurations as core
 use Rattle.core_language.specs.Steps.{Event, Fork, Moves, machine_step, after_step}
@@ -15,9 +13,10 @@ use Rattle.core_language.specs.Rounds as rounds
 use Rattle.core_programs.specs.Bodies.{program_of}
 use Rattle.machine_rounds.specs.Ready.{IsParked}
 use Rattle.machine_rounds.specs.Local.{moves_in, looks_at}
-use Rattle.machine_rounds.proofs.Showing.{turn_moved, turn_still, parked_moved, parked_still}
+use Rattle.machine_rounds.proofs.Showing.{turn_moved, turn_still, parked_moved}
 use Rattle.machine_rounds.proofs.Forking.{within_turn}
-use Rattle.chan_machine.specs.declared.runs.Queue.{Queue}
+use Rattle.chan_machine.specs.declared.runs.Joining.{Joining}
+use Rattle.chan_machine.specs.declared.runs.Seat.{Seat}
 use Rattle.core_programs.specs.declared.nodes.Parts.{Parts}
 use Rattle.machine_rounds.specs.Sets.{has}
 use Rattle.machine_rounds.specs.Showing.{ForksWithin, Spreads, alters_by, uses_by}
@@ -31,10 +30,10 @@ use Rattle.chan_machine.specs.declared.events.Stepped.TheVariants as stepped
 use Rattle.chan_machine.specs.declared.runs.Run.{Run}
 use Rattle.chan_machine.specs.Reading.{config_of, entry_of, event_of, step_of}
 use Rattle.chan_machine.specs.Fits.{ForksAt, is_moved}
-use Rattle.chan_machine.specs.Parking.{waits, is_ready}
-use Rattle.chan_machine.specs.Turning.{Parked, ParkedBut, SpreadsTo, event_in, run_as, shows_nothing}
-use Rattle.chan_machine.proofs.Maps.{get-map_of}
-use Rattle.chan_machine.proofs.Parked.{same-is, same-self, same-symm}
+use Rattle.chan_machine.specs.Parking.{is_joined, waits}
+use Rattle.chan_machine.specs.Turning.{Parked, ParkedBut, SpreadsTo, event_in, run_as, shows_nothing, stands_in}
+use Rattle.task_tables.proofs.Reading.{get-tasks_of}
+use Rattle.chan_machine.proofs.Parked.{joined-put, same-is, same-self, same-symm}
 
 early : (a b : Bool) → a ≡ true → (a || b) ≡ true
 early true b e = refl
@@ -44,7 +43,7 @@ early false b e = cc
 
 pub forks_at : (program : Parts) (config : Config) (n : ℕ) (p : Name) (rest : List Name) → n < 4294967295 → ForksWithin n (config_of program config).tasks (p ∷ rest) → ForksAt config.tasks p
 forks_at program config n p rest less w t found =
-    let few : t.forks ≤ n = (w p (task_of program.nodes t) (get-map_of (task_of program.nodes) config.tasks p ∙ ap (option_map (task_of program.nodes)) found)).1 (early (same_name p p) (has (slice_cmp nat_cmp) rest p) (same-self p)) in
+    let few : t.forks ≤ n = (w p (task_of program.nodes t) (get-tasks_of program config.tasks p ∙ ap (option_map (task_of program.nodes)) found)).1 (early (same_name p p) (has (slice_cmp nat_cmp) rest p) (same-self p)) in
     omega arith
 
 -- ---- what a step shows
@@ -100,74 +99,85 @@ module _ (es : List Entry) (t : ℕ) (p : Name) where
   pub not_noted : (e : Shown) → shows_nothing e ≡ true → map entry_of es ≡ map entry_of es ++ event_entries t p (event_of e)
   not_noted e n = sym (append-nil (map entry_of es)) ∙ ap (λ zs. map entry_of es ++ zs) (no_entry e n)
 
--- ---- who is ready after a step
+-- ---- who stands in the queue after a step
 
-module _ (p : Name) (before first : BTreeSet Name) (m n : BTreeMap Name (Vec Name)) where
-  grows : (a b : Bool) → b ≡ true → cond a true b ≡ true
-  grows true b h = refl
-  grows false b h = h
+either : (a b c : Bool) → c ≡ true → (a || (b || c)) ≡ true
+either true b c h = refl
+either false true c h = refl
+either false false c h = h
 
-  here : (a b : Bool) → a ≡ true → cond a true b ≡ true
-  here true b h = refl
-  here false b h = cc
+grows : (a b c : Bool) → (a || b) ≡ true → (a || (b || c)) ≡ true
+grows true b c h = refl
+grows false true c h = refl
+grows false false c h = cc
 
-  kept_in : set.Updates (slice_cmp nat_cmp) before first p true → (q : Name) → is_ready before q ≡ true → is_ready first q ≡ true
-  kept_in u q h = u.0 q ∙ grows (same_name p q) (is_ready before q) h
+module _ (p : Name) (movers : List Name) (mover : has (slice_cmp nat_cmp) movers p ≡ true) where
+  abbrev pub live : BTreeMap Name ℕ → Name → Bool
+  live joined q = has (slice_cmp nat_cmp) movers q || is_joined joined q
 
-  put_in : set.Updates (slice_cmp nat_cmp) before first p true → (q : Name) → same_name q p ≡ true → is_ready first q ≡ true
-  put_in u q h = u.0 q ∙ here (same_name p q) (is_ready before q) (same-symm p q ∙ h)
+  itself : (joined : BTreeMap Name ℕ) (q : Name) → same_name q p ≡ true → live joined q ≡ true
+  itself joined q h = early (has (slice_cmp nat_cmp) movers q) (is_joined joined q) (ap (has (slice_cmp nat_cmp) movers) (same-is q p h) ∙ mover)
 
-  pub spreads_alone : (e : Event) → set.Updates (slice_cmp nat_cmp) before first p true → ((q : Name) → alters_by p e q ≡ same_name q p) → ((c : Name) → uses_by e c ≡ false) → Spreads p e (is_ready before) (is_ready first) (waits m) (waits m)
-  spreads_alone e u alters uses = record {
-    more = kept_in u;
-    altered = λ q h. put_in u q (sym (alters q) ∙ h);
+  pub spreads_alone : (e : Event) (joined : BTreeMap Name ℕ) (m : BTreeMap Name (Vec Seat)) → ((q : Name) → alters_by p e q ≡ same_name q p) → ((c : Name) → uses_by e c ≡ false)
+      → Spreads p e (live joined) (live joined) (waits m) (waits m)
+  spreads_alone e joined m alters uses = record {
+    more = λ q h. h;
+    altered = λ q h. itself joined q (sym (alters q) ∙ h);
     woken = λ c q t w. let both = sym t ∙ uses c in let bad : ⊥ = cc in absurd bad;
     kept = λ c q t w. w;
   }
 
-  module _ (last : BTreeSet Name) (channel : Name) (out : (c q : Name) → waits n c q ≡ (waits m c q && not (same_name c channel))) where
-    at_channel : (c : Name) → same_name c channel ≡ true → c ≡ channel
-    at_channel = λ c e. same-is c channel e
-
+  module _ (before later : BTreeMap Name ℕ) (m n : BTreeMap Name (Vec Seat)) (channel : Name)
+      (out : (c q : Name) → waits n c q ≡ (waits m c q && not (same_name c channel))) (woke : (q : Name) → is_joined later q ≡ (is_joined before q || waits m channel q)) where
     stays : (a b : Bool) → a ≡ true → b ≡ false → (a && not b) ≡ true
     stays true false e f = refl
     stays true true e f = sym f
     stays false b e f = e
 
-    later_in : (a b : Bool) → a ≡ true → (a || b) ≡ true
-    later_in = early
+    now : (q : Name) → (has (slice_cmp nat_cmp) movers q || (is_joined before q || waits m channel q)) ≡ true → live later q ≡ true
+    now q h = ap (λ b. has (slice_cmp nat_cmp) movers q || b) (woke q) ∙ h
 
-    woken_in : (a b : Bool) → b ≡ true → (a || b) ≡ true
-    woken_in true b h = refl
-    woken_in false b h = h
+    more_live : (q : Name) → live before q ≡ true → live later q ≡ true
+    more_live q h = now q (grows (has (slice_cmp nat_cmp) movers q) (is_joined before q) (waits m channel q) h)
 
-    waits_at : (c q : Name) → same_name c channel ≡ true → waits m c q ≡ true → waits m channel q ≡ true
-    waits_at c q t w = ap (λ x. waits m x q) (sym (at_channel c t)) ∙ w
+    woken_live : (c q : Name) → same_name c channel ≡ true → waits m c q ≡ true → live later q ≡ true
+    woken_live c q t w = now q (either (has (slice_cmp nat_cmp) movers q) (is_joined before q) (waits m channel q) (ap (λ x. waits m x q) (sym (same-is c channel t)) ∙ w))
 
-    pub spreads_at : (e : Event) → set.Updates (slice_cmp nat_cmp) before first p true → ((q : Name) → is_ready last q ≡ (is_ready first q || waits m channel q))
-        → ((q : Name) → alters_by p e q ≡ same_name q p) → ((c : Name) → uses_by e c ≡ same_name c channel) → Spreads p e (is_ready before) (is_ready last) (waits m) (waits n)
-    spreads_at e u woke alters uses = record {
-      more = λ q h. woke q ∙ later_in (is_ready first q) (waits m channel q) (kept_in u q h);
-      altered = λ q h. woke q ∙ later_in (is_ready first q) (waits m channel q) (put_in u q (sym (alters q) ∙ h));
-      woken = λ c q t w. woke q ∙ woken_in (is_ready first q) (waits m channel q) (waits_at c q (sym (uses c) ∙ t) w);
+    pub spreads_at : (e : Event) → ((q : Name) → alters_by p e q ≡ same_name q p) → ((c : Name) → uses_by e c ≡ same_name c channel) → Spreads p e (live before) (live later) (waits m) (waits n)
+    spreads_at e alters uses = record {
+      more = more_live;
+      altered = λ q h. itself later q (sym (alters q) ∙ h);
+      woken = λ c q t w. woken_live c q (sym (uses c) ∙ t) w;
       kept = λ c q t w. out c q ∙ stays (waits m c q) (same_name c channel) w (sym (uses c) ∙ t);
     }
 
-    pub spreads_fork : (second : BTreeSet Name) (child : Name) → child ≡ channel → set.Updates (slice_cmp nat_cmp) before first p true → set.Updates (slice_cmp nat_cmp) first second child true
-        → ((q : Name) → is_ready last q ≡ (is_ready second q || waits m channel q)) → Spreads p (Fork channel) (is_ready before) (is_ready last) (waits m) (waits n)
-    spreads_fork second child is u v woke = record {
-      more = λ q h. woke q ∙ later_in (is_ready second q) (waits m channel q) (on q (kept_in u q h));
-      altered = λ q h. woke q ∙ later_in (is_ready second q) (waits m channel q) (either q (same_name q channel) refl h);
-      woken = λ c q t w. woke q ∙ woken_in (is_ready second q) (waits m channel q) (waits_at c q t w);
+    pub spreads_fork : (first : BTreeMap Name ℕ) (child : Name) (number : ℕ) → child ≡ channel → Updates (slice_cmp nat_cmp) first before child (Some number)
+        → Spreads p (Fork channel) (live first) (live later) (waits m) (waits n)
+    spreads_fork first child number is put = record {
+      more = λ q h. more_live q (on q h);
+      altered = λ q h. altered_live q (same_name q channel) refl h;
+      woken = woken_live;
       kept = λ c q t w. out c q ∙ stays (waits m c q) (same_name c channel) w t;
     }
       where
-        on : (q : Name) → is_ready first q ≡ true → is_ready second q ≡ true
-        on q h = v.0 q ∙ grows (same_name child q) (is_ready first q) h
+        put_on : (a b c : Bool) → (a || b) ≡ true → (a || cond c true b) ≡ true
+        put_on true b c h = refl
+        put_on false b true h = refl
+        put_on false b false h = h
 
-        either : (q : Name) (b : Bool) → same_name q channel ≡ b → (b || same_name q p) ≡ true → is_ready second q ≡ true
-        either q true e h = v.0 q ∙ here (same_name child q) (is_ready first q) (same-symm child q ∙ ap (same_name q) is ∙ e)
-        either q false e h = on q (put_in u q h)
+        put_here : (a b c : Bool) → c ≡ true → (a || cond c true b) ≡ true
+        put_here true b c h = refl
+        put_here false b true h = refl
+        put_here false b false h = cc
+
+        on : (q : Name) → live first q ≡ true → live before q ≡ true
+        on q h = ap (λ b. has (slice_cmp nat_cmp) movers q || b) (joined-put first before child number put q)
+            ∙ put_on (has (slice_cmp nat_cmp) movers q) (is_joined first q) (same_name child q) h
+
+        altered_live : (q : Name) (b : Bool) → same_name q channel ≡ b → (b || same_name q p) ≡ true → live later q ≡ true
+        altered_live q true e h = more_live q (ap (λ b. has (slice_cmp nat_cmp) movers q || b) (joined-put first before child number put q)
+            ∙ put_here (has (slice_cmp nat_cmp) movers q) (is_joined first q) (same_name child q) (same-symm child q ∙ ap (same_name q) is ∙ e))
+        altered_live q false e h = itself later q h
 
 -- ---- looks
 
@@ -178,7 +188,7 @@ sift_step test x ms next xs all is h = ap (λ zs. zs ++ filter test xs) is ∙ b
     by true = append_assoc ms (x ∷ []) (filter test xs)
     by false = ap (λ zs. zs ++ filter test xs) (append-nil ms)
 
-pub sift_begins : (program : Parts) (run : Run) (ready movers : List Name) (waiting : BTreeMap Name (Vec Name)) → movers ≡ [] → Parked program run (has (slice_cmp nat_cmp) ready) waiting
+pub sift_begins : (program : Parts) (run : Run) (ready movers : List Name) (waiting : BTreeMap Name (Vec Seat)) → movers ≡ [] → Parked program run (has (slice_cmp nat_cmp) ready) waiting
     → Parked program run (λ q. has (slice_cmp nat_cmp) ready q || has (slice_cmp nat_cmp) movers q) waiting
 sift_begins program run ready movers waiting none parked q dead = parked q (by (has (slice_cmp nat_cmp) ready q) (has (slice_cmp nat_cmp) movers q) dead)
   where
@@ -209,17 +219,20 @@ module _ (program : Parts) (time : ℕ) (run : Run) (p : Name) (D : core.Config)
   forks_moved event some n rest off w = subst (λ x. ForksWithin n (after_step (config_of program run.config) x).tasks rest) (is ∙ an_event D s event some)
       (within_turn n p rest off (program_of program) (config_of program run.config) w)
 
-  abbrev ParkedAt : rounds.Run → List Name → BTreeSet Name → BTreeMap Name (Vec Name) → Type 0
-  ParkedAt next rest ready waiting = IsParked (moves_in (program_of program)) (looks_at (program_of program)) next (λ q. has (slice_cmp nat_cmp) rest q || is_ready ready q) (waits waiting)
+  abbrev ParkedAt : rounds.Run → List Name → Joining → Type 0
+  ParkedAt next movers queue = IsParked (moves_in (program_of program)) (looks_at (program_of program)) next (stands_in movers queue) (waits queue.waiting)
 
-  pub still_parked : D ≡ config_of program run.config → (rest : List Name) (queue : Queue) (later : BTreeSet Name) → set.Updates (slice_cmp nat_cmp) queue.ready later p true
-      → ParkedBut program run (p ∷ rest) queue → ParkedAt (made D (map entry_of run.entries)) rest later queue.waiting
-  still_parked kept rest queue later u parked = parked_still (program_of program) time (run_as program run) (made D (map entry_of run.entries)) p rest (is_ready queue.ready) (is_ready later) (waits queue.waiting) (waits queue.waiting)
-      (ap (λ E. made E (map entry_of run.entries)) kept) u.0 (λ c q w. w) parked
+  pub still_parked : D ≡ config_of program run.config → (movers : List Name) (queue : Joining) → ParkedBut program run movers queue → ParkedAt (made D (map entry_of run.entries)) movers queue
+  still_parked kept movers queue parked = subst (λ (r : rounds.Run). ParkedAt r movers queue) (ap (λ E. made E (map entry_of run.entries)) (sym kept)) parked
 
-  pub moved_parked : (event : Shown) → event_in s ≡ Some event → (es : List rounds.Entry) → es ≡ map entry_of run.entries ++ event_entries time p (event_of event) → (rest : List Name) (queue later : Queue)
-      → SpreadsTo p (event_of event) queue later → ParkedBut program run (p ∷ rest) queue → ParkedAt (made D es) rest later.ready later.waiting
-  moved_parked event some es noted rest queue later spreads parked =
+  pub moved_parked : (event : Shown) → event_in s ≡ Some event → (es : List rounds.Entry) → es ≡ map entry_of run.entries ++ event_entries time p (event_of event) → (movers : List Name)
+      → has (slice_cmp nat_cmp) movers p ≡ true → (queue later : Joining) → SpreadsTo (event_of event) queue later → ParkedBut program run movers queue → ParkedAt (made D es) movers later
+  moved_parked event some es noted movers mover queue later spreads parked =
       let moved = is ∙ an_event D s event some in
-      parked_moved (program_of program) time (run_as program run) (made D es) p rest D (event_of event) (is_ready queue.ready) (is_ready later.ready) (waits queue.waiting) (waits later.waiting) moved
-      (turn_moved (program_of program) time (run_as program run) p D (event_of event) es moved noted) spreads parked
+      parked_moved (program_of program) time (run_as program run) (made D es) p [] D (event_of event) (stands_in movers queue) (stands_in movers later) (waits queue.waiting) (waits later.waiting) moved
+      (turn_moved (program_of program) time (run_as program run) p D (event_of event) es moved noted) (spreads p movers mover)
+      (λ q dead. parked q (last (has (slice_cmp nat_cmp) (p ∷ []) q) (stands_in movers queue q) dead))
+    where
+      last : (a b : Bool) → (a || b) ≡ false → b ≡ false
+      last true b e = cc
+      last false b e = e

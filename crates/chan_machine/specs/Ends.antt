@@ -7,15 +7,10 @@ use Rattle.core_language.specs.Names.{Name}
 use Rattle.machine_values.specs.declared.values.Value.{Value}
 use Rattle.machine_values.specs.Cells.{EndTest}
 use Rattle.machine_values.specs.Ends.{ValuePasses}
-use Rattle.machine_tasks.specs.declared.tasks.Task.{Task}
-use Rattle.machine_tasks.specs.Ends.{TaskPasses}
+pub use Rattle.task_tables.specs.Ends.{TasksPass}
 use Rattle.chan_machine.specs.declared.configurations.Config.{Config}
 
--- each end of the tasks passes the test
-abbrev pub TasksPass : EndTest → BTreeMap Name Task → Type 0
-TasksPass test tasks = (p : Name) (t : Task) → get (slice_cmp nat_cmp) tasks p ≡ Some t → TaskPasses test t
-
--- each end of the values on channels does
+-- each end of the values on channels passes the test
 abbrev pub ChannelsPass : EndTest → BTreeMap Name (Option Value) → Type 0
 ChannelsPass test channels = (c : Name) (v : Value) → get (slice_cmp nat_cmp) channels c ≡ Some (Some v) → ValuePasses test v
 

@@ -1,9 +1,8 @@
 -- What steps and looks answer.
 use Rattle.std.specs.Prelude.{◌≡◌, ℕ, Option, Some}
 use Rattle.std.specs.Option.{option_map}
-use Rattle.std.specs.Ordering.{nat_cmp}
-use Rattle.std.specs.Cmp.Lexicographic.{slice_cmp}
-use Rattle.std.specs.BTreeMap.{BTreeMap, get}
+use Rattle.std.specs.BTreeMap.{BTreeMap}
+use Rattle.std.specs.FinMap.{get}
 use Rattle.core_language.specs.Names.{Name}
 use Rattle.core_language.specs.Acts.{Act, channel_in}
 use Rattle.core_language.specs.Configurations as core
@@ -29,10 +28,10 @@ AnswersAlone kind channels c answer = (C : core.Config) (p : Name) (k : ℕ) (a 
 
 -- the act of the task p, which is of this kind, took the configuration to the other one, and is answered so
 abbrev pub AnswersAt : Kind → Parts → Config → Config → Name → Stepped → Type 0
-AnswersAt kind program before after p answer = (t : Task) → get (slice_cmp nat_cmp) before.tasks p ≡ Some t → kind ≡ kind_of (act_in program t)
+AnswersAt kind program before after p answer = (t : Task) → get before.tasks p ≡ Some t → kind ≡ kind_of (act_in program t)
     → effect (config_of program before) p t.forks (act_in program t) ≡ step_of (config_of program after) answer
 
 -- the same of an act at the channel c
 abbrev pub AnswersOn : Kind → Parts → Config → Config → Name → Name → Stepped → Type 0
-AnswersOn kind program before after p c answer = (t : Task) → get (slice_cmp nat_cmp) before.tasks p ≡ Some t → kind ≡ kind_of (act_in program t) → Some c ≡ channel_in (act_in program t)
+AnswersOn kind program before after p c answer = (t : Task) → get before.tasks p ≡ Some t → kind ≡ kind_of (act_in program t) → Some c ≡ channel_in (act_in program t)
     → effect (config_of program before) p t.forks (act_in program t) ≡ step_of (config_of program after) answer

@@ -1,8 +1,8 @@
 -- The machine's steps and configurations as the core language has them.
-use Rattle.std.specs.Prelude.{◌≡◌, ℕ, ℤ, List, map, Option, Some, None}
+use Rattle.std.specs.Prelude.{ℤ, List, map, Option, Some, None}
 use Rattle.std.specs.Ordering.{nat_cmp}
 use Rattle.std.specs.Cmp.Lexicographic.{slice_cmp}
-use Rattle.std.specs.FinMap.{from_entries, insert}
+use Rattle.std.specs.FinMap.{from_entries}
 use Rattle.std.specs.BTreeMap.{BTreeMap}
 use Rattle.std.specs.Option.{option_map}
 use Rattle.core_language.specs.Names.{Name, NameMap}
@@ -16,6 +16,7 @@ use Rattle.machine_values.specs.declared.values.Value.{Value}
 use Rattle.machine_values.specs.Reading.{value_as, why_of, halt_of}
 use Rattle.machine_tasks.specs.declared.tasks.Task.{Task}
 use Rattle.machine_tasks.specs.Reading.{task_of}
+use Rattle.task_tables.specs.Tables.{tasks_of}
 use Rattle.chan_machine.specs.declared.events.Event.{Event}
 use Rattle.chan_machine.specs.declared.events.Event.TheVariants as event
 use Rattle.chan_machine.specs.declared.events.Stepped.{Stepped}
@@ -72,22 +73,18 @@ prints_of puts = map (λ p. (p.name, p.number)) puts
 
 abbrev pub config_of : Parts → Config → configuration.Config
 config_of parts config = record {
-  tasks = map_of (task_of parts.nodes) config.tasks;
+  tasks = tasks_of parts config.tasks;
   channels = map_of (option_map value_as) config.channels;
   prints = prints_of config.prints;
 }
 
--- the task with the name stands at the place now and has made so many forks; the others are as before
-abbrev pub MovesTo : Parts → BTreeMap Name Task → BTreeMap Name Task → Name → configuration.Place → ℕ → Type 0
-MovesTo program before after p place forks = map_of (task_of program.nodes) after ≡ insert (map_of (task_of program.nodes) before) p (record { place = place; forks = forks })
-
--- each task stands where it stood and has made as many forks
-abbrev pub AreUnmoved : Parts → BTreeMap Name Task → BTreeMap Name Task → Type 0
-AreUnmoved program before after = map_of (task_of program.nodes) after ≡ map_of (task_of program.nodes) before
-
 -- the tasks, each under its name
 abbrev pub tasks_named : Parts → List Task → NameMap configuration.Task
 tasks_named parts tasks = from_entries (map (λ t. (t.name, task_of parts.nodes t)) tasks)
+
+-- the tasks themselves, each under its name
+abbrev pub put_by_name : List Task → NameMap Task
+put_by_name tasks = from_entries (map (λ t. (t.name, t)) tasks)
 
 -- the channels, each under its name
 abbrev pub channels_named : List Store → NameMap (Option core.Value)

@@ -4,6 +4,7 @@ ghost use Rattle.std.specs.Option.{option_map};
 ghost use Rattle.std.specs.Ordering.{nat_cmp};
 ghost use Rattle.std.specs.Cmp.Lexicographic.{slice_cmp};
 ghost use Rattle.std.specs.BTreeMap.{Updates, get as looked_up};
+ghost use Rattle.std.specs.FinMap.{get, insert};
 ghost use Rattle.machine_values.specs.Cells.{EndTest};
 ghost use Rattle.machine_values.specs.Reading.{value_as};
 ghost use Rattle.machine_tasks.specs.declared.tasks.Task.{Task};
@@ -16,12 +17,13 @@ ghost use Rattle.chan_machine.specs.Looking.{AnswersAt, AnswersOn};
 
 use crate::configurations::Config;
 use crate::events::{Event, Stepped};
-use crate::steps::{accept, branch, fill, move_on};
+use crate::steps::fill;
 use chan_base::{Memory, Name, Number};
 use core_programs::Program;
 use machine_tasks::{Bind, Offspring, Parcel, Slot, StuckWhy, Task, Value};
 use std::alloc::Global;
 use std::collections::BTreeMap;
+use task_tables::TaskTable;
 
 /// The step of a task whose act is a send on the channel.
 pub(crate) fn send(
@@ -29,10 +31,11 @@ pub(crate) fn send(
     program: &Program,
     config: &mut Config,
     name: &Name,
+    guess: usize,
     channel: Name,
 ) -> Result<Stepped, Memory>
     requires fits { Fits program.now config.old }
-    requires there { IsSome (looked_up (slice_cmp nat_cmp) config.old.tasks name.now) }
+    requires there { IsSome (get config.old.tasks name.now) }
     requires act { ActsAt IsSend program.now config.old.tasks name.now }
     ensures value { IfOk result (λ s. AnswersOn Send program.now config.old config.new name.now channel s) }
     ensures still { IfOk result (λ s. is_moved s ≡ false → config_of program.now config.new ≡ config_of program.now config.old) }
@@ -40,7 +43,7 @@ pub(crate) fn send(
     ensures fits { Fits program.now config.new }
     ensures ends { OnOk result ((test : EndTest) → ConfigPasses test config.old → ConfigPasses test config.new) }
 {
-    let Some(task) = config.tasks.get(name) else {
+    let Some(task) = config.tasks.get(name, guess) else {
         unreachable!();
     };
     let Parcel { value, next } = task.parcel(alloc, program)?;
@@ -49,7 +52,7 @@ pub(crate) fn send(
         Some(Some(_)) => Ok(Stepped::Stuck(StuckWhy::FullChannel)),
         Some(None) => {
             fill(&mut config.channels, &channel, value);
-            move_on(program, &mut config.tasks, name, next);
+            config.tasks.move_on(program, name, guess, next);
             Ok(Stepped::Moved(Event::Send(channel)))
         }
     }
@@ -60,10 +63,11 @@ pub(crate) fn receive(
     program: &Program,
     config: &mut Config,
     name: &Name,
+    guess: usize,
     channel: Name,
 ) -> Result<Stepped, Memory>
     requires fits { Fits program.now config.old }
-    requires there { IsSome (looked_up (slice_cmp nat_cmp) config.old.tasks name.now) }
+    requires there { IsSome (get config.old.tasks name.now) }
     requires act { ActsAt IsRecv program.now config.old.tasks name.now }
     requires room { RoomAt config.old.tasks name.now }
     ensures value { IfOk result (λ s. AnswersOn Recv program.now config.old config.new name.now channel s) }
@@ -72,7 +76,7 @@ pub(crate) fn receive(
     ensures fits { Fits program.now config.new }
     ensures ends { OnOk result ((test : EndTest) → ConfigPasses test config.old → ConfigPasses test config.new) }
 {
-    let Some(task) = config.tasks.get(name) else {
+    let Some(task) = config.tasks.get(name, guess) else {
         unreachable!();
     };
     let Slot {
@@ -88,7 +92,7 @@ pub(crate) fn receive(
                     name: variable,
                     value,
                 };
-                accept(program, &mut config.tasks, name, bind, next);
+                config.tasks.accept(program, name, guess, bind, next);
                 Ok(Stepped::Moved(Event::Recv(channel)))
             }
             _ => unreachable!(),
@@ -111,24 +115,24 @@ fn restore(channels: &mut BTreeMap<Name, Option<Value>>, name: Name, old: Option
     }
 }
 
-/// Puts a task and an Empty channel of one name, or neither.
+/// Puts a task and an Empty channel of its name, or neither.
 fn put_child(
-    tasks: &mut BTreeMap<Name, Task>,
+    tasks: &mut TaskTable,
     channels: &mut BTreeMap<Name, Option<Value>>,
     child: Task,
-    names: (Name, Name, Name),
+    names: (Name, Name),
 ) -> Result<(), Memory>
-    requires second { names.1 ≡ names.0 }
-    requires third { names.2 ≡ names.0 }
-    ensures tasks { OnOk result (Updates (slice_cmp nat_cmp) tasks.old tasks.new names.0 (Some child)) }
-    ensures channels { OnOk result (Updates (slice_cmp nat_cmp) channels.old channels.new names.0 (Some None)) }
-    ensures err_tasks { OnErr result (tasks.new.entries ≡ tasks.old.entries) }
+    requires first { names.0 ≡ child.name }
+    requires second { names.1 ≡ child.name }
+    ensures tasks { OnOk result (tasks.new ≡ insert tasks.old child.name child) }
+    ensures channels { OnOk result (Updates (slice_cmp nat_cmp) channels.old channels.new child.name (Some None)) }
+    ensures err_tasks { OnErr result (tasks.new ≡ tasks.old) }
     ensures err_channels { OnErr result (map_of (option_map value_as) channels.new ≡ map_of (option_map value_as) channels.old) }
 {
-    let (key, channel, spare) = names;
+    let (channel, spare) = names;
     let old = channels.insert(channel, None)?;
-    match tasks.insert(key, child) {
-        Ok(_) => Ok(()),
+    match tasks.put(child) {
+        Ok(()) => Ok(()),
         Err(_) => {
             restore(channels, spare, old);
             Err(Memory)
@@ -142,9 +146,10 @@ pub(crate) fn fork(
     program: &Program,
     config: &mut Config,
     name: &Name,
+    guess: usize,
 ) -> Result<Stepped, Memory>
     requires fits { Fits program.now config.old }
-    requires there { IsSome (looked_up (slice_cmp nat_cmp) config.old.tasks name.now) }
+    requires there { IsSome (get config.old.tasks name.now) }
     requires act { ActsAt IsFork program.now config.old.tasks name.now }
     requires room { RoomAt config.old.tasks name.now }
     requires forks { ForksAt config.old.tasks name.now }
@@ -154,17 +159,16 @@ pub(crate) fn fork(
     ensures fits { Fits program.now config.new }
     ensures ends { OnOk result (NoNewCells config.old config.new) }
 {
-    let Some(task) = config.tasks.get(name) else {
+    let Some(task) = config.tasks.get(name, guess) else {
         unreachable!();
     };
     let made = task.offspring(alloc, program, Number(0))?;
     let Offspring { child, end, next } = made;
-    let key = child.name().copy()?;
-    let channel = key.copy()?;
-    let spare = key.copy()?;
-    let event = key.copy()?;
-    let names = (key, channel, spare);
+    let channel = child.name().copy()?;
+    let spare = child.name().copy()?;
+    let event = child.name().copy()?;
+    let names = (channel, spare);
     put_child(&mut config.tasks, &mut config.channels, child, names)?;
-    branch(program, &mut config.tasks, name, end, next);
+    config.tasks.branch(program, name, guess, end, next);
     Ok(Stepped::Moved(Event::Fork(event)))
 }

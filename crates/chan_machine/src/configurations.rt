@@ -7,16 +7,15 @@ ghost use Rattle.std.specs.BTreeMap.{get as looked_up};
 ghost use Rattle.std.specs.FinMap.{keys, insert};
 ghost use Rattle.core_programs.specs.declared.nodes.Parts.{Parts};
 ghost use Rattle.machine_values.specs.Reading.{value_as};
-ghost use Rattle.machine_tasks.specs.Fits.{FramesFit};
-ghost use Rattle.machine_tasks.specs.Reading.{task_of};
-ghost use Rattle.chan_machine.specs.Reading.{stored_in, config_of, channels_named, config_with, map_of, tasks_named};
-ghost use Rattle.chan_machine.specs.Fits.{AllFit, Fits, TasksFit};
+ghost use Rattle.chan_machine.specs.Reading.{stored_in, config_of, channels_named, config_with, map_of, put_by_name};
+ghost use Rattle.chan_machine.specs.Fits.{AllFit, Fits};
 
 use chan_base::{Memory, Name, Names};
-use machine_tasks::{Frames, Task, Tasks, Value};
+use machine_tasks::{Tasks, Value};
 use sqlite_items::Items;
 use std::alloc::Global;
 use std::collections::BTreeMap;
+use task_tables::TaskTable;
 
 pub type Stores = Items<Store>;
 
@@ -40,22 +39,12 @@ pub struct Put {
 /// they came.
 #[derive(Drop)]
 pub struct Config {
-    pub(crate) tasks: BTreeMap<Name, Task>,
+    pub(crate) tasks: TaskTable,
     pub(crate) channels: BTreeMap<Name, Option<Value>>,
     pub(crate) prints: Puts,
 }
 
 impl Config {
-    /// The frames of the task, where one with this name was made.
-    pub fn frames(&self, task: &Name) -> Option<&Frames>
-        ensures { option_map (λ frames. frames.now) result ≡ option_map (λ t. t.frames) (looked_up (slice_cmp nat_cmp) self.now.tasks task.now) }
-    {
-        match self.tasks.get(task) {
-            Some(task) => Some(task.frames()),
-            None => None,
-        }
-    }
-
     /// The value on the channel, where it is there and is Full.
     pub fn stored(&self, channel: &Name) -> Option<&Value>
         ensures { option_map (λ value. value.now) result ≡ stored_in (looked_up (slice_cmp nat_cmp) self.now.channels channel.now) }
@@ -74,17 +63,6 @@ impl Config {
 }
 
 impl Config {
-    /// The names of the tasks in order, ended ones too.
-    pub fn tasks(&self, alloc: Global) -> Result<Names, Memory>
-        ensures { IfOk result (λ names. (program : Parts) → names ≡ keys (config_of program self.now).tasks) }
-    {
-        let mut names = Items::new(alloc);
-        'tasks: for (name, _) in self.tasks.iter() {
-            names.push(name.copy()?)?;
-        }
-        Ok(names)
-    }
-
     /// The names of the channels in order.
     pub fn channels(&self, alloc: Global) -> Result<Names, Memory>
         ensures { IfOk result (λ names. (program : Parts) → names ≡ keys (config_of program self.now).channels) }
@@ -95,18 +73,6 @@ impl Config {
         }
         Ok(names)
     }
-}
-
-/// Puts the task under its name.
-fn put_task(tasks: &mut BTreeMap<Name, Task>, task: Task) -> Result<(), Memory>
-    ensures tasks { OnOk result ((program : Parts)
-        → map_of (task_of program.nodes) tasks.new ≡ insert (map_of (task_of program.nodes) tasks.old) task.name (task_of program.nodes task)) }
-    ensures fits { OnOk result ((program : Parts) → TasksFit program tasks.old
-        → FramesFit program.nodes task.frames.items → TasksFit program tasks.new) }
-{
-    let name = task.name().copy()?;
-    tasks.insert(name, task)?;
-    Ok(())
 }
 
 /// Puts the channel under its name.
@@ -120,14 +86,13 @@ fn put_channel(channels: &mut BTreeMap<Name, Option<Value>>, store: Store) -> Re
 }
 
 /// The tasks under their names.
-fn gather_tasks(alloc: Global, tasks: Tasks) -> Result<BTreeMap<Name, Task>, Memory>
-    ensures value { IfOk result (λ gathered. (program : Parts) → map_of (task_of program.nodes) gathered ≡ tasks_named program tasks) }
-    ensures fits { IfOk result (λ gathered. (program : Parts) → AllFit program tasks → TasksFit program gathered) }
+fn gather_tasks(alloc: Global, tasks: Tasks) -> Result<TaskTable, Memory>
+    ensures { IfOk result (λ gathered. gathered ≡ put_by_name tasks) }
 {
     let mut left = tasks;
-    let mut gathered = BTreeMap::new(alloc);
+    let mut gathered = TaskTable::new(alloc);
     'tasks: while let Some(task) = left.pop() {
-        put_task(&mut gathered, task)?;
+        gathered.put(task)?;
     }
     Ok(gathered)
 }

@@ -14,7 +14,6 @@ use crate::looks::{can_move, look};
 use chan_base::{Memory, Name, Names};
 use core_programs::Program;
 use machine_tasks::Halt;
-use sqlite_items::Items;
 use std::alloc::Global;
 
 /// An ending that the next step of one task brings.
@@ -73,7 +72,7 @@ fn any_moves(program: &Program, config: &Config, names: &Names) -> bool
     ensures { result ≡ not (is_nil (filter (moves (program_of program.now) (config_of program.now config.now)) names.now)) }
 {
     for name in names.as_slice() {
-        if can_move(program, config, name) {
+        if can_move(program, config, name, 0) {
             return true;
         }
     }
@@ -84,12 +83,7 @@ fn any_moves(program: &Program, config: &Config, names: &Names) -> bool
 fn unended(alloc: Global, program: &Program, config: &Config) -> Result<Names, Memory>
     ensures { IfOk result (λ names. names ≡ unended_of (config_of program.now config.now)) }
 {
-    let mut names = Items::new(alloc);
-    'tasks: for (name, task) in config.tasks.iter() {
-        if !task.frames().is_empty() {
-            names.push(name.copy()?)?;
-        }
-    }
+    let names = config.tasks.unended(alloc)?;
     Ok(names)
 }
 

@@ -5,6 +5,7 @@ mod channels;
 mod configurations;
 mod endings;
 mod events;
+mod kept_tasks;
 mod looks;
 mod queue;
 mod replays;

@@ -74,7 +74,7 @@ pub fn look(
     requires fits { Fits program.now config.now }
     ensures { IfOk result (λ s. Answers (machine_step (program_of program.now) (config_of program.now config.now) name.now) s) }
 {
-    let Some(task) = config.tasks.get(name) else {
+    let Some(task) = config.tasks.get(name, 0) else {
         return Ok(Stepped::Absent);
     };
     match task.act(program) {
@@ -125,22 +125,27 @@ fn found<'a>(program: &Program, config: &'a Config, task: &Task) -> Option<&'a O
 }
 
 /// Whether the task moves and doesn't halt.
-pub(crate) fn can_move(program: &Program, config: &Config, name: &Name) -> bool
+pub(crate) fn can_move(program: &Program, config: &Config, name: &Name, guess: usize) -> bool
     requires fits { Fits program.now config.now }
     ensures { result ≡ moves (program_of program.now) (config_of program.now config.now) name.now }
 {
-    let Some(task) = config.tasks.get(name) else {
+    let Some(task) = config.tasks.get(name, guess) else {
         return false;
     };
     passes(&task.act(program), found(program, config, task))
 }
 
 /// The channel at which the task's next act looks.
-pub(crate) fn awaited<'a>(program: &Program, config: &'a Config, name: &Name) -> Option<&'a Name>
+pub(crate) fn awaited<'a>(
+    program: &Program,
+    config: &'a Config,
+    name: &Name,
+    guess: usize,
+) -> Option<&'a Name>
     requires fits { Fits program.now config.now }
     ensures { option_map (λ channel. channel.now) result ≡ channel_in (act_in (program_of program.now) (config_of program.now config.now) name.now) }
 {
-    let Some(task) = config.tasks.get(name) else {
+    let Some(task) = config.tasks.get(name, guess) else {
         return None;
     };
     match task.channel(program) {

@@ -8,7 +8,8 @@ use Rattle.farkas_check.specs.declared.cert.Row.{Row}
 use Rattle.outline_language.specs.Nameless.{Ref}
 use Rattle.outline_language.specs.Contexts.{Context, Cursor, Why, WrongForm, and_then, or_why, provided}
 use Rattle.outline_language.specs.Paths as written
-use Rattle.outline_language.specs.Paths.{Followed, Message, Direction, Unfolded}
+use Rattle.outline_language.specs.Paths.{Followed, Message, Unfolded}
+use Rattle.outline_language.specs.Equations.{Direction}
 use Rattle.chan_syntax.specs.Reading.{letter_of}
 use Rattle.chan_syntax.specs.declared.operands.Letter.{Letter as Written}
 use Rattle.chan_syntax.specs.declared.operands.Proof.{Proof}

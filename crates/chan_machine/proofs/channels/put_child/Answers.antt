@@ -13,6 +13,6 @@ pub returns-in-Err-clause-err_channels : goal.returns-in-Err-clause-err_channels
 returns-in-Err-clause-err_channels c =
     let n = c.insert.new.self in
     let o = c.restore.new.channels in
-    let back = subst (λ (w : Option (Option Value)). Updates (slice_cmp nat_cmp) n o c.args.names.2 w) c.in_ok-old.ensures.old c.restore.ensures in
-    undone (option_map value_as) c.args.channels.now n o c.args.names.1 None c.in_ok-old.ensures.updates
-    (subst (λ (k : Name). Updates (slice_cmp nat_cmp) n o k (looked_up (slice_cmp nat_cmp) c.args.channels.now c.args.names.1)) (c.requires.third ∙ sym c.requires.second) back)
+    let back = subst (λ (w : Option (Option Value)). Updates (slice_cmp nat_cmp) n o c.args.names.1 w) c.in_ok-old.ensures.old c.restore.ensures in
+    undone (option_map value_as) c.args.channels.now n o c.args.names.0 None c.in_ok-old.ensures.updates
+    (subst (λ (k : Name). Updates (slice_cmp nat_cmp) n o k (looked_up (slice_cmp nat_cmp) c.args.channels.now c.args.names.0)) (c.requires.second ∙ sym c.requires.first) back)

@@ -1,17 +1,17 @@
 use Rattle.std.proofs.Common.{◌≡◌, Some, None, rules, refl, sym, ap, ◌∙◌}
 use Rattle.std.specs.Option.{option_map}
-use Rattle.std.specs.Ordering.{nat_cmp}
-use Rattle.std.specs.Cmp.Lexicographic.{slice_cmp}
-use Rattle.std.specs.BTreeMap.{get as looked_up}
+use Rattle.std.specs.FinMap.{get}
 use Rattle.core_language.specs.Acts.{channel_in}
 use Rattle.core_language.specs.Steps.{effect}
 use Rattle.machine_values.specs.Reading.{value_as}
 use Rattle.machine_tasks.specs.declared.tasks.Task.{Task}
-use Rattle.machine_tasks.specs.Reading.{act_in, task_of}
+use Rattle.machine_tasks.specs.Reading.{act_in}
+use Rattle.task_tables.specs.Tables.{tasks_of}
 use Rattle.chan_machine.specs.Reading.{config_of, map_of}
 use Rattle.chan_machine.proofs.Maps.{take-map_of}
 use Rattle.chan_machine.proofs.Keeping.{channels_taken}
-use Rattle.chan_machine.proofs.Effects.{waits_at, no_receive, channel_has, receives_now, one_task}
+use Rattle.chan_machine.proofs.Effects.{waits_at, no_receive, channel_has, receives_now}
+use Rattle.task_tables.proofs.Putting.{one_task}
 use Rattle.chan_machine.proofs.channels.receive.Goals as goal
 
 pub returns-in-None-clause-value : goal.returns-in-None-clause-value
@@ -33,7 +33,7 @@ returns-in-Some-Some-remove-clause-value c = λ t found is at.
     let p = c.args.name.now in
     let channel = c.args.channel in
     let old = c.in-Some.task.now in
-    let here : looked_up (slice_cmp nat_cmp) config.tasks p ≡ Some old = search rules in
+    let here : get config.tasks p ≡ Some old = search rules in
     let same : t ≡ old = one_task config.tasks p t old found here in
     let slot = c.in_ok-variable.field-0 in
     let value = c.in-Some-Some-remove.value in
@@ -42,7 +42,7 @@ returns-in-Some-Some-remove-clause-value c = λ t found is at.
     let ts = c.accept.ensures.moves old here in
     let cs = take-map_of (option_map value_as) config.channels c.remove.new.self channel c.remove.ensures.updates in
     ap (λ (x : Task). effect C p x.forks (act_in program x)) same
-    ∙ receives_now C p old.forks (act_in program old) (map_of (task_of program.nodes) c.accept.new.tasks) (map_of (option_map value_as) c.remove.new.self) channel receives.channel (value_as value) _
+    ∙ receives_now C p old.forks (act_in program old) (tasks_of program c.accept.new.self) (map_of (option_map value_as) c.remove.new.self) channel receives.channel (value_as value) _
     receives.act_is ends (channel_has C config.channels channel (Some (Some value)) refl (sym c.in-Some-Some-remove.ensures.value ∙ ap Some c.in-Some-Some-remove.field-0-is)) ts cs
 
 pub slot-requires : goal.slot-requires

@@ -1,17 +1,17 @@
 use Rattle.std.proofs.Common.{◌≡◌, Some, None, rules, refl, sym, ap, ◌∙◌}
 use Rattle.std.specs.Option.{option_map}
-use Rattle.std.specs.Ordering.{nat_cmp}
-use Rattle.std.specs.Cmp.Lexicographic.{slice_cmp}
-use Rattle.std.specs.BTreeMap.{get as looked_up}
+use Rattle.std.specs.FinMap.{get}
 use Rattle.core_language.specs.Acts.{channel_in}
 use Rattle.core_language.specs.Steps.{effect}
 use Rattle.machine_values.specs.Reading.{value_as}
 use Rattle.machine_tasks.specs.declared.tasks.Task.{Task}
-use Rattle.machine_tasks.specs.Reading.{act_in, task_of}
+use Rattle.machine_tasks.specs.Reading.{act_in}
+use Rattle.task_tables.specs.Tables.{tasks_of}
 use Rattle.chan_machine.specs.Reading.{config_of, map_of}
 use Rattle.chan_machine.proofs.Maps.{put-map_of}
 use Rattle.chan_machine.proofs.Keeping.{channels_put}
-use Rattle.chan_machine.proofs.Effects.{stuck_send, no_send, channel_has, sends_now, one_task}
+use Rattle.chan_machine.proofs.Effects.{stuck_send, no_send, channel_has, sends_now}
+use Rattle.task_tables.proofs.Putting.{one_task}
 use Rattle.chan_machine.proofs.channels.send.Goals as goal
 
 pub returns-in-None-clause-value : goal.returns-in-None-clause-value
@@ -33,7 +33,7 @@ returns-in-Some-None-clause-value c = λ t found is at.
     let p = c.args.name.now in
     let channel = c.args.channel in
     let old = c.in-Some.task.now in
-    let here : looked_up (slice_cmp nat_cmp) config.tasks p ≡ Some old = search rules in
+    let here : get config.tasks p ≡ Some old = search rules in
     let same : t ≡ old = one_task config.tasks p t old found here in
     let parcel = c.in_ok-value.field-0 in
     let sends = c.in_ok-value.ensures in
@@ -41,7 +41,7 @@ returns-in-Some-None-clause-value c = λ t found is at.
     let ts = c.move_on.ensures.moves old here in
     let cs = put-map_of (option_map value_as) config.channels c.fill.new.channels channel (Some parcel.value) c.fill.ensures in
     ap (λ (x : Task). effect C p x.forks (act_in program x)) same
-    ∙ sends_now C p old.forks (act_in program old) (map_of (task_of program.nodes) c.move_on.new.tasks) (map_of (option_map value_as) c.fill.new.channels) channel sends.channel (value_as parcel.value) _
+    ∙ sends_now C p old.forks (act_in program old) (tasks_of program c.move_on.new.self) (map_of (option_map value_as) c.fill.new.channels) channel sends.channel (value_as parcel.value) _
     sends.act_is ends (channel_has C config.channels channel (Some None) refl (sym c.in-Some-None.ensures.value ∙ ap Some c.in-Some-None.field-0-is)) ts cs
 
 pub parcel-requires : goal.parcel-requires
@@ -54,7 +54,7 @@ pub returns-in-Some-None-clause-ends : goal.returns-in-Some-None-clause-ends
 returns-in-Some-None-clause-ends c = λ test passes.
     let config = c.args.config.now in
     let old = c.in-Some.task.now in
-    let here : looked_up (slice_cmp nat_cmp) config.tasks c.args.name.now ≡ Some old = search rules in (
+    let here : get config.tasks c.args.name.now ≡ Some old = search rules in (
       c.move_on.ensures.ends test passes.0,
       channels_put test config.channels c.fill.new.channels c.args.channel (Some c.in_ok-value.field-0.value) passes.1 c.fill.ensures (c.in_ok-value.ensures.ends test (passes.0 c.args.name.now old here)),
     )

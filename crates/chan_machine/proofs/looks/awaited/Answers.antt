@@ -1,7 +1,5 @@
 use Rattle.std.proofs.Common.{◌≡◌, Some, rules, ◌∙◌}
-use Rattle.std.specs.Ordering.{nat_cmp}
-use Rattle.std.specs.Cmp.Lexicographic.{slice_cmp}
-use Rattle.std.specs.BTreeMap.{get as looked_up}
+use Rattle.std.specs.FinMap.{get}
 use Rattle.chan_machine.proofs.Sifted.{looks_absent, looks_here}
 use Rattle.chan_machine.proofs.looks.awaited.Goals as goal
 
@@ -13,7 +11,7 @@ returns-in-Some-channel c =
     let config = c.args.config.now in
     let p = c.args.name.now in
     let t = c.in-Some.task.now in
-    let here : looked_up (slice_cmp nat_cmp) config.tasks p ≡ Some t = search rules in
+    let here : get config.tasks p ≡ Some t = search rules in
     c.in-Some-channel.ensures.name ∙ looks_here c.args.program.now config p t here (c.requires.fits p t here).0
 
 pub returns-in-None : goal.returns-in-None
@@ -21,5 +19,5 @@ returns-in-None c =
     let config = c.args.config.now in
     let p = c.args.name.now in
     let t = c.in-Some.task.now in
-    let here : looked_up (slice_cmp nat_cmp) config.tasks p ≡ Some t = search rules in
+    let here : get config.tasks p ≡ Some t = search rules in
     c.in-None.ensures.name ∙ looks_here c.args.program.now config p t here (c.requires.fits p t here).0

@@ -1,8 +1,6 @@
 use Rattle.std.proofs.Common.{◌≡◌, Some, rules, refl, sym, ◌∙◌}
 use Rattle.std.specs.Option.{option_map}
-use Rattle.std.specs.Ordering.{nat_cmp}
-use Rattle.std.specs.Cmp.Lexicographic.{slice_cmp}
-use Rattle.std.specs.BTreeMap.{get as looked_up}
+use Rattle.std.specs.FinMap.{get}
 use Rattle.std.proofs.lemmas.Result.{IfOk-weaker}
 use Rattle.std.proofs.lemmas.Int.{ints}
 use Rattle.machine_values.specs.Reading.{value_as, why_of, halt_of}
@@ -25,7 +23,7 @@ returns-in-Silent c =
     let p = c.args.name.now in
     let t = c.in-Some.task.now in
     let a = act_in program t in
-    let found : looked_up (slice_cmp nat_cmp) config.tasks p ≡ Some t = search rules in
+    let found : get config.tasks p ≡ Some t = search rules in
     let here = steps_here program config.tasks (map_of (option_map value_as) config.channels) (prints_of config.prints) p t found (c.requires.fits p t found).0 in
     (_, here ∙ silent_effect C p t.forks a c.in-Silent.ensures)
 
@@ -37,7 +35,7 @@ returns-in-Print c =
     let p = c.args.name.now in
     let t = c.in-Some.task.now in
     let a = act_in program t in
-    let found : looked_up (slice_cmp nat_cmp) config.tasks p ≡ Some t = search rules in
+    let found : get config.tasks p ≡ Some t = search rules in
     let here = steps_here program config.tasks (map_of (option_map value_as) config.channels) (prints_of config.prints) p t found (c.requires.fits p t found).0 in
     let (after, e) = print_answer C p t.forks a c.in-Print.number _ c.printed.result c.in-Print.ensures c.printed.ensures.shows (search (rules, ints)) in
     (after, here ∙ e)
@@ -50,7 +48,7 @@ returns-in-End c =
     let p = c.args.name.now in
     let t = c.in-Some.task.now in
     let a = act_in program t in
-    let found : looked_up (slice_cmp nat_cmp) config.tasks p ≡ Some t = search rules in
+    let found : get config.tasks p ≡ Some t = search rules in
     let here = steps_here program config.tasks (map_of (option_map value_as) config.channels) (prints_of config.prints) p t found (c.requires.fits p t found).0 in
     (_, here ∙ end_effect C p t.forks a c.in-End.ensures)
 
@@ -62,7 +60,7 @@ returns-in-Ended c =
     let p = c.args.name.now in
     let t = c.in-Some.task.now in
     let a = act_in program t in
-    let found : looked_up (slice_cmp nat_cmp) config.tasks p ≡ Some t = search rules in
+    let found : get config.tasks p ≡ Some t = search rules in
     let here = steps_here program config.tasks (map_of (option_map value_as) config.channels) (prints_of config.prints) p t found (c.requires.fits p t found).0 in
     (C, here ∙ ended_effect C p t.forks a c.in-Ended.ensures)
 
@@ -74,7 +72,7 @@ returns-in-Halts c =
     let p = c.args.name.now in
     let t = c.in-Some.task.now in
     let a = act_in program t in
-    let found : looked_up (slice_cmp nat_cmp) config.tasks p ≡ Some t = search rules in
+    let found : get config.tasks p ≡ Some t = search rules in
     let here = steps_here program config.tasks (map_of (option_map value_as) config.channels) (prints_of config.prints) p t found (c.requires.fits p t found).0 in
     (C, here ∙ halted_effect C p t.forks a (halt_of c.in-Halts.why) c.in-Halts.ensures)
 
@@ -86,7 +84,7 @@ returns-in-Stuck c =
     let p = c.args.name.now in
     let t = c.in-Some.task.now in
     let a = act_in program t in
-    let found : looked_up (slice_cmp nat_cmp) config.tasks p ≡ Some t = search rules in
+    let found : get config.tasks p ≡ Some t = search rules in
     let here = steps_here program config.tasks (map_of (option_map value_as) config.channels) (prints_of config.prints) p t found (c.requires.fits p t found).0 in
     (C, here ∙ stuck_effect C p t.forks a (why_of c.in-Stuck.why) c.in-Stuck.ensures)
 
@@ -98,7 +96,7 @@ returns-in_ok-child-in-Fork c =
     let p = c.args.name.now in
     let t = c.in-Some.task.now in
     let a = act_in program t in
-    let found : looked_up (slice_cmp nat_cmp) config.tasks p ≡ Some t = search rules in
+    let found : get config.tasks p ≡ Some t = search rules in
     let here = steps_here program config.tasks (map_of (option_map value_as) config.channels) (prints_of config.prints) p t found (c.requires.fits p t found).0 in
     let made = c.in_ok-made-in-Fork.ensures in
     let (after, e) = forks_child C p t.forks a _ c.in_ok-child-in-Fork.child _ _ made.act_is (c.in_ok-child-in-Fork.ensures ∙ c.name.ensures ∙ made.child_is.name_is) in
@@ -112,7 +110,7 @@ returns-in-Some-channel c =
     let p = c.args.name.now in
     let t = c.in-Some.task.now in
     let a = act_in program t in
-    let found : looked_up (slice_cmp nat_cmp) config.tasks p ≡ Some t = search rules in
+    let found : get config.tasks p ≡ Some t = search rules in
     let here = steps_here program config.tasks (map_of (option_map value_as) config.channels) (prints_of config.prints) p t found (c.requires.fits p t found).0 in
     IfOk-weaker c.look_send.result _ _ (λ s answers. let (after, e) = answers C p t.forks a refl c.in-Send.ensures c.in-Some-channel.ensures.name in (after, here ∙ e)) c.look_send.ensures
 
@@ -124,7 +122,7 @@ returns-in-Some-channel-2 c =
     let p = c.args.name.now in
     let t = c.in-Some.task.now in
     let a = act_in program t in
-    let found : looked_up (slice_cmp nat_cmp) config.tasks p ≡ Some t = search rules in
+    let found : get config.tasks p ≡ Some t = search rules in
     let here = steps_here program config.tasks (map_of (option_map value_as) config.channels) (prints_of config.prints) p t found (c.requires.fits p t found).0 in
     IfOk-weaker c.look_receive.result _ _ (λ s answers. let (after, e) = answers C p t.forks a refl c.in-Recv.ensures c.in-Some-channel-2.ensures.name in (after, here ∙ e)) c.look_receive.ensures
 

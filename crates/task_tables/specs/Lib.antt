@@ -1,0 +1,4 @@
+pub mod Tables
+pub mod Numbered
+pub mod Fits
+pub mod Ends

@@ -1,0 +1,7 @@
+//! Tables of tasks.
+#![tactic(auto)]
+
+mod tables;
+mod written;
+
+pub use tables::TaskTable;
