@@ -7,6 +7,7 @@ use Rattle.core_language.specs.Resources.{Proto, Equation, Res, Send, Recv, Clos
 use Rattle.farkas_check.specs.declared.cert.Row.{Row}
 use Rattle.outline_language.specs.Nameless.{Ref}
 use Rattle.outline_language.specs.Contexts.{Context, Cursor, Why, WrongForm, and_then, or_why, provided}
+use Rattle.outline_language.specs.Equations as equations
 use Rattle.outline_language.specs.Paths as written
 use Rattle.outline_language.specs.Paths.{Followed, Message, Unfolded}
 use Rattle.outline_language.specs.Equations.{Direction}
@@ -24,12 +25,12 @@ use Rattle.outline_paths.specs.Answers.{Serves, Unfolds, unfolded_of}
 use Rattle.outline_paths.specs.declared.unfolding.Unfolded.{Unfolded as Found}
 use Rattle.outline_paths.specs.Following as spec
 
-named_read : (x : Ident) (ps : List Proto) → protocol_named x (map protocol_read ps) ≡ option_map protocol_read (written.proto_named x ps)
+named_read : (x : Ident) (ps : List Proto) → protocol_named x (map protocol_read ps) ≡ option_map protocol_read (equations.proto_named x ps)
 named_read x [] = refl
 named_read x (p ∷ ps) = pick (same p.name x) (named_read x ps)
   where
-    pick : (b : Bool) → protocol_named x (map protocol_read ps) ≡ option_map protocol_read (written.proto_named x ps)
-        → (if b then Some (protocol_read p) else protocol_named x (map protocol_read ps)) ≡ option_map protocol_read (if b then Some p else written.proto_named x ps)
+    pick : (b : Bool) → protocol_named x (map protocol_read ps) ≡ option_map protocol_read (equations.proto_named x ps)
+        → (if b then Some (protocol_read p) else protocol_named x (map protocol_read ps)) ≡ option_map protocol_read (if b then Some p else equations.proto_named x ps)
     pick true rest = refl
     pick false rest = rest
 
@@ -43,7 +44,7 @@ end_read : (o : Option Proto) → spec.is_there (spec.message_at (option_map pro
 end_read None = refl
 end_read (Some p) = by p.equation
   where
-    by : (e : Equation) → spec.is_there (option_map (message_read p.params) (written.written_message e)) ≡ written.is_end (Some (record { name = p.name; params = p.params; equation = e }))
+    by : (e : Equation) → spec.is_there (option_map (message_read p.params) (equations.written_message e)) ≡ written.is_end (Some (record { name = p.name; params = p.params; equation = e }))
     by (Send res next) = refl
     by (Recv res next) = refl
     by Close = refl
@@ -51,20 +52,20 @@ end_read (Some p) = by p.equation
     by (Branch left right this other) = refl
 
 module _ (again here : Ident → Bool) (same : (x : Ident) → again x ≡ here x) where
-  fork_goes_on : (letter : Letter) (params : List Ident) (o : Option written.Fork) → spec.goes_on again letter (option_map (fork_read params) o) ≡ written.goes_on here letter o
+  fork_goes_on : (letter : Letter) (params : List Ident) (o : Option equations.Fork) → spec.goes_on again letter (option_map (fork_read params) o) ≡ written.goes_on here letter o
   fork_goes_on letter params None = refl
   fork_goes_on First params (Some fork) = same fork.this.name
   fork_goes_on Second params (Some fork) = same fork.other.name
 
   proto_goes_on : (letter : Letter) (o : Option Proto) → spec.goes_on again letter (spec.fork_at (option_map protocol_read o)) ≡ written.goes_on here letter (written.fork_at o)
   proto_goes_on letter None = refl
-  proto_goes_on letter (Some p) = fork_goes_on letter p.params (written.fork_of p.equation)
+  proto_goes_on letter (Some p) = fork_goes_on letter p.params (equations.fork_of p.equation)
 
 path_read : (ps : List Proto) (path : List Letter) (x : Ident) → spec.is_path (map protocol_read ps) path x ≡ written.is_path ps path x
-path_read ps [] x = ap (λ o. spec.is_there (spec.message_at o)) (named_read x ps) ∙ end_read (written.proto_named x ps)
+path_read ps [] x = ap (λ o. spec.is_there (spec.message_at o)) (named_read x ps) ∙ end_read (equations.proto_named x ps)
 path_read ps (letter ∷ letters) x =
     ap (λ o. spec.goes_on (spec.is_path (map protocol_read ps) letters) letter (spec.fork_at o)) (named_read x ps)
-    ∙ proto_goes_on (spec.is_path (map protocol_read ps) letters) (written.is_path ps letters) (path_read ps letters) letter (written.proto_named x ps)
+    ∙ proto_goes_on (spec.is_path (map protocol_read ps) letters) (written.is_path ps letters) (path_read ps letters) letter (equations.proto_named x ps)
 
 -- ---- letters and the message
 
@@ -72,9 +73,9 @@ module _ (ps : List Proto) (ctx : Context) where
   letter_read : (letter : Letter) (at : Followed) → spec.follow_letter (map protocol_read ps) (length ctx.ints) ctx.hyps letter at ≡ written.follow_letter ps ctx letter at
   letter_read letter at =
       ap (λ o. and_then (or_why (spec.fork_at o) WrongForm) (λ fork. spec.take_letter (length ctx.ints) ctx.hyps letter fork at)) (named_read at.end.name ps)
-      ∙ at_proto (written.proto_named at.end.name ps)
+      ∙ at_proto (equations.proto_named at.end.name ps)
     where
-      at_fork : (letter : Letter) (params : List Ident) (o : Option written.Fork)
+      at_fork : (letter : Letter) (params : List Ident) (o : Option equations.Fork)
           → and_then (or_why (option_map (fork_read params) o) WrongForm) (λ fork. spec.take_letter (length ctx.ints) ctx.hyps letter fork at)
           ≡ and_then (or_why o WrongForm) (λ fork. written.take_letter params ctx letter fork at)
       at_fork letter params None = refl
@@ -83,9 +84,9 @@ module _ (ps : List Proto) (ctx : Context) where
 
       at_proto : (o : Option Proto)
           → and_then (or_why (spec.fork_at (option_map protocol_read o)) WrongForm) (λ fork. spec.take_letter (length ctx.ints) ctx.hyps letter fork at)
-          ≡ and_then (or_why o WrongForm) (λ proto. and_then (or_why (written.fork_of proto.equation) WrongForm) (λ fork. written.take_letter proto.params ctx letter fork at))
+          ≡ and_then (or_why o WrongForm) (λ proto. and_then (or_why (equations.fork_of proto.equation) WrongForm) (λ fork. written.take_letter proto.params ctx letter fork at))
       at_proto None = refl
-      at_proto (Some p) = at_fork letter p.params (written.fork_of p.equation)
+      at_proto (Some p) = at_fork letter p.params (equations.fork_of p.equation)
 
   follow_read : (path : List Letter) (at : Followed) → spec.follow (map protocol_read ps) (length ctx.ints) ctx.hyps path at ≡ written.follow ps ctx path at
   follow_read [] at = refl
@@ -95,7 +96,7 @@ module _ (ps : List Proto) (ctx : Context) where
 
   message_of_read : (end : Ref) → spec.message_of (map protocol_read ps) end ≡ written.message_at ps end
   message_of_read end =
-      ap (λ o. and_then (or_why (spec.message_at o) WrongForm) (spec.told end)) (named_read end.name ps) ∙ at_proto (written.proto_named end.name ps)
+      ap (λ o. and_then (or_why (spec.message_at o) WrongForm) (spec.told end)) (named_read end.name ps) ∙ at_proto (equations.proto_named end.name ps)
     where
       at_message : (params : List Ident) (o : Option (Direction × Res))
           → and_then (or_why (option_map (message_read params) o) WrongForm) (spec.told end)
@@ -105,9 +106,9 @@ module _ (ps : List Proto) (ctx : Context) where
 
       at_proto : (o : Option Proto)
           → and_then (or_why (spec.message_at (option_map protocol_read o)) WrongForm) (spec.told end)
-          ≡ and_then (or_why o WrongForm) (λ proto. and_then (or_why (written.written_message proto.equation) WrongForm) (λ message. spec.told end (message_read proto.params message)))
+          ≡ and_then (or_why o WrongForm) (λ proto. and_then (or_why (equations.written_message proto.equation) WrongForm) (λ message. spec.told end (message_read proto.params message)))
       at_proto None = refl
-      at_proto (Some p) = at_message p.params (written.written_message p.equation)
+      at_proto (Some p) = at_message p.params (equations.written_message p.equation)
 
   unfolded_read : (end : Ref) (path : List Letter) (cursor : Cursor) → spec.unfolded (map protocol_read ps) (length ctx.ints) ctx.hyps end path cursor ≡ written.unfolded ps ctx end path cursor
   unfolded_read end path cursor =
