@@ -140,7 +140,7 @@ impl FormSum {
     }
 
     /// The form, to be added to.
-    pub(crate) fn from_form(alloc: Global, form: &Form) -> Result<FormSum, Memory>
+    pub fn from_form(alloc: Global, form: &Form) -> Result<FormSum, Memory>
         ensures sum { IfOk result (λ sum. sum ≡ form.now) }
         ensures within { IfOk result (IsWithin (2 ^ 246)) }
     {
