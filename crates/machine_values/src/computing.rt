@@ -80,6 +80,17 @@ fn integer(binds: &[Bind], name: &Ident) -> Result<i128, Trouble>
     }
 }
 
+/// A variable that stands alone has the factor 1, for which nothing is multiplied.
+fn scale(factor: i64, number: i128) -> Result<i128, Trouble>
+    ensures { computed_of result ≡ checked machine (factor *ℤ number) }
+{
+    if factor == 1 {
+        within(number)
+    } else {
+        multiply(i128::from(factor), number)
+    }
+}
+
 fn product(binds: &[Bind], part: &Part) -> Result<i128, Trouble>
     ensures { computed_of result ≡ product_of machine (env_of binds.now) part.now.factor part.now.name }
 {
@@ -87,7 +98,7 @@ fn product(binds: &[Bind], part: &Part) -> Result<i128, Trouble>
         None => within(i128::from(part.factor)),
         Some(name) => {
             let number = integer(binds, name)?;
-            multiply(i128::from(part.factor), number)
+            scale(part.factor, number)
         }
     }
 }
