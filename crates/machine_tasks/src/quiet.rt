@@ -15,9 +15,7 @@ use crate::attempts::{
 use crate::tasks::Task;
 use chan_base::Memory;
 use core_programs::{Node, Program};
-use machine_values::{
-    StuckWhy, lookup, make, make_all, product_of_sums, quotient, remainder, sum,
-};
+use machine_values::{StuckWhy, lookup, make, make_all, product_of_sums, quotient, remainder, sum};
 use std::alloc::Global;
 
 impl Task {
