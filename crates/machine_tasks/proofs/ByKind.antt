@@ -2,7 +2,7 @@
 use Rattle.std.proofs.Common.{◌≡◌, ℤ}
 use Rattle.core_language.specs.Acts as act
 use Rattle.machine_tasks.specs.Kinds.{Silent, Print, Fork, Send, Recv, End, kind_of}
-use Rattle.machine_tasks.specs.Moving.{IsQuiet}
+use Rattle.machine_tasks.specs.Moving.{IsPrint, IsQuiet}
 use Rattle.machine_tasks.specs.Sharing.{IsFork, IsSend, IsRecv}
 
 pub prints : (a : act.Act) (z : ℤ) → kind_of a ≡ Print z → IsQuiet a
@@ -15,6 +15,17 @@ prints act.End z e = tt
 prints act.IsEnded z e = let bad : ⊥ = cc in absurd bad
 prints (act.IsHalted why) z e = let bad : ⊥ = cc in absurd bad
 prints (act.IsStuck why) z e = let bad : ⊥ = cc in absurd bad
+
+pub printing : (a : act.Act) (z : ℤ) → kind_of a ≡ Print z → IsPrint a
+printing (act.Print y place) z e = tt
+printing (act.Silent place) z e = let bad : ⊥ = cc in absurd bad
+printing (act.Fork child parent its) z e = let bad : ⊥ = cc in absurd bad
+printing (act.Send channel v place) z e = let bad : ⊥ = cc in absurd bad
+printing (act.Recv channel place) z e = let bad : ⊥ = cc in absurd bad
+printing act.End z e = let bad : ⊥ = cc in absurd bad
+printing act.IsEnded z e = let bad : ⊥ = cc in absurd bad
+printing (act.IsHalted why) z e = let bad : ⊥ = cc in absurd bad
+printing (act.IsStuck why) z e = let bad : ⊥ = cc in absurd bad
 
 pub forks : (a : act.Act) → kind_of a ≡ Fork → IsFork a
 forks (act.Fork child parent its) e = tt

@@ -8,7 +8,7 @@ use Rattle.core_language.specs.Programs as body
 use Rattle.core_language.specs.Operands.{Pat}
 use Rattle.core_language.specs.Computing.{Computed, Done, Sticks, Halts, Depth, Env, machine, all_supplied, sum_of, supplied, value_of}
 use Rattle.core_language.specs.Configurations.{Caller, Ended, Place}
-use Rattle.core_language.specs.Acts.{Act, act_of, act_at, chosen, on_end, on_pair, on_sum, returned, with_result}
+use Rattle.core_language.specs.Acts.{Act, act_of, act_at, channel_in, chosen, on_end, on_pair, on_sum, returned, with_result}
 use Rattle.core_language.specs.Acts as act
 use Rattle.chan_syntax.specs.Reading.{supply_of, term_of}
 use Rattle.core_programs.specs.declared.nodes.Arm.{Arm}
@@ -23,7 +23,8 @@ use Rattle.machine_values.specs.Troubles.{all_made_of, computed_of, made_of}
 use Rattle.machine_tasks.specs.declared.tasks.Frame.{Frame}
 use Rattle.machine_tasks.specs.declared.tasks.Task.{Task}
 use Rattle.machine_tasks.specs.Fits.{EndsIn, IsCall}
-use Rattle.machine_tasks.specs.Moving.{IsArm, IsPair, IsQuiet}
+use Rattle.machine_tasks.specs.Channels.{channel_named}
+use Rattle.machine_tasks.specs.Moving.{IsPrint}
 use Rattle.machine_tasks.specs.Reading.{act_in, place_of}
 use Rattle.machine_tasks.specs.Sharing.{IsFork, IsRecv, IsSend}
 use Rattle.machine_tasks.specs.Steps.{callers_of}
@@ -60,28 +61,6 @@ all_made_ok P stuck halted (Ok a) m go is p = refl
 all_made_ok P stuck halted (Err (trouble.Stuck why)) m go is p = absurd (stuck _ (subst (λ u. P (with_result u go)) (sym is) p))
 all_made_ok P stuck halted (Err (trouble.Halts why)) m go is p = absurd (halted _ (subst (λ u. P (with_result u go)) (sym is) p))
 
--- what a quiet act finds
-pub quiet_pair : (o : Option core.Value) (go : core.Value → core.Value → Act) → IsQuiet (on_pair o go) → IsPair o
-quiet_pair (Some (core.Pair a b)) go q = tt
-quiet_pair (Some (core.Int z)) go q = q
-quiet_pair (Some core.Unit) go q = q
-quiet_pair (Some (core.Arm i a)) go q = q
-quiet_pair (Some (core.End c)) go q = q
-quiet_pair None go q = q
-
-pub quiet_arm : (o : Option core.Value) (go : ℕ → core.Value → Act) → IsQuiet (on_sum o go) → IsArm o
-quiet_arm (Some (core.Arm i a)) go q = tt
-quiet_arm (Some (core.Int z)) go q = q
-quiet_arm (Some core.Unit) go q = q
-quiet_arm (Some (core.Pair a b)) go q = q
-quiet_arm (Some (core.End c)) go q = q
-quiet_arm None go q = q
-
-pub quiet_chosen : (arms : List Arm) (i : ℕ) (at : ℕ → Body) (env : Env) (callers : List Caller) (v : core.Value) → IsQuiet (chosen (arm_at (arms_opened arms at) i) env callers v) → i < length arms
-quiet_chosen [] i at env callers v q = absurd q
-quiet_chosen (arm ∷ arms) zero at env callers v q = omega arith
-quiet_chosen (arm ∷ arms) (suc i) at env callers v q = let less = quiet_chosen arms i at env callers v q in omega (arith, less)
-
 -- what an exchange finds
 pub sends_end : (o : Option core.Value) (go : Name → Act) → IsSend (on_end o go) → (c : Name) × (o ≡ Some (core.End c))
 sends_end (Some (core.End c)) go s = (c, refl)
@@ -101,41 +80,77 @@ receives_end None go s = absurd s
 
 -- ---- which node there is
 
--- an act that isn't of this kind without a result isn't with one
-pub none_result : {A : Type 0} (P : Act → Type 0) → ((why : _) → P (act.IsStuck why) → ⊥) → ((why : _) → P (act.IsHalted why) → ⊥)
-    → (m : Computed A) (go : A → Act) → ((a : A) → P (go a) → ⊥) → P (with_result m go) → ⊥
-none_result P stuck halted (Done a) go none p = none a p
-none_result P stuck halted (Sticks why) go none p = stuck why p
-none_result P stuck halted (Halts why) go none p = halted why p
+-- what holds of an act without a result, and of each that a result leads to, holds anyhow
+module _ (Q : Act → Type 0) (stuck : (why : _) → Q (act.IsStuck why)) (halted : (why : _) → Q (act.IsHalted why)) where
+  pub of_result : {A : Type 0} (m : Computed A) (go : A → Act) → ((a : A) → Q (go a)) → Q (with_result m go)
+  of_result (Done a) go all = all a
+  of_result (Sticks why) go all = stuck why
+  of_result (Halts why) go all = halted why
 
-pub none_end : (P : Act → Type 0) → ((why : _) → P (act.IsStuck why) → ⊥) → (o : Option core.Value) (go : Name → Act) → ((c : Name) → P (go c) → ⊥) → P (on_end o go) → ⊥
-none_end P stuck (Some (core.End c)) go none p = none c p
-none_end P stuck (Some (core.Int z)) go none p = stuck _ p
-none_end P stuck (Some core.Unit) go none p = stuck _ p
-none_end P stuck (Some (core.Arm i a)) go none p = stuck _ p
-none_end P stuck (Some (core.Pair a b)) go none p = stuck _ p
-none_end P stuck None go none p = stuck _ p
+  pub of_end : (o : Option core.Value) (go : Name → Act) → ((c : Name) → Q (go c)) → Q (on_end o go)
+  of_end (Some (core.End c)) go all = all c
+  of_end (Some (core.Int z)) go all = stuck _
+  of_end (Some core.Unit) go all = stuck _
+  of_end (Some (core.Arm i a)) go all = stuck _
+  of_end (Some (core.Pair a b)) go all = stuck _
+  of_end None go all = stuck _
 
-none_pair : (P : Act → Type 0) → ((why : _) → P (act.IsStuck why) → ⊥) → (o : Option core.Value) (go : core.Value → core.Value → Act) → ((a b : core.Value) → P (go a b) → ⊥) → P (on_pair o go) → ⊥
-none_pair P stuck (Some (core.Pair a b)) go none p = none a b p
-none_pair P stuck (Some (core.Int z)) go none p = stuck _ p
-none_pair P stuck (Some core.Unit) go none p = stuck _ p
-none_pair P stuck (Some (core.Arm i a)) go none p = stuck _ p
-none_pair P stuck (Some (core.End c)) go none p = stuck _ p
-none_pair P stuck None go none p = stuck _ p
+  of_pair : (o : Option core.Value) (go : core.Value → core.Value → Act) → ((a b : core.Value) → Q (go a b)) → Q (on_pair o go)
+  of_pair (Some (core.Pair a b)) go all = all a b
+  of_pair (Some (core.Int z)) go all = stuck _
+  of_pair (Some core.Unit) go all = stuck _
+  of_pair (Some (core.Arm i a)) go all = stuck _
+  of_pair (Some (core.End c)) go all = stuck _
+  of_pair None go all = stuck _
 
-none_sum : (P : Act → Type 0) → ((why : _) → P (act.IsStuck why) → ⊥) → (o : Option core.Value) (go : ℕ → core.Value → Act) → ((i : ℕ) (a : core.Value) → P (go i a) → ⊥) → P (on_sum o go) → ⊥
-none_sum P stuck (Some (core.Arm i a)) go none p = none i a p
-none_sum P stuck (Some (core.Int z)) go none p = stuck _ p
-none_sum P stuck (Some core.Unit) go none p = stuck _ p
-none_sum P stuck (Some (core.Pair a b)) go none p = stuck _ p
-none_sum P stuck (Some (core.End c)) go none p = stuck _ p
-none_sum P stuck None go none p = stuck _ p
+  of_sum : (o : Option core.Value) (go : ℕ → core.Value → Act) → ((i : ℕ) (a : core.Value) → Q (go i a)) → Q (on_sum o go)
+  of_sum (Some (core.Arm i a)) go all = all i a
+  of_sum (Some (core.Int z)) go all = stuck _
+  of_sum (Some core.Unit) go all = stuck _
+  of_sum (Some (core.Pair a b)) go all = stuck _
+  of_sum (Some (core.End c)) go all = stuck _
+  of_sum None go all = stuck _
 
-pub none_forked : (P : Act → Type 0) → ((why : _) → P (act.IsHalted why) → ⊥) → ((c : Name) (a b : Place) → P (act.Fork c a b) → ⊥) → (b : Bool) (c : Name) (mine its : Place)
-    → P (if b then act.Fork c mine its else act.IsHalted Depth) → ⊥
-none_forked P halted fork true c mine its p = fork c mine its p
-none_forked P halted fork false c mine its p = halted _ p
+  pub of_forked : (b : Bool) (c : Name) (mine its : Place) → Q (act.Fork c mine its) → Q (if b then act.Fork c mine its else act.IsHalted Depth)
+  of_forked true c mine its fork = fork
+  of_forked false c mine its fork = halted _
+
+  module _ (silent : (place : Place) → Q (act.Silent place)) (end : Q act.End) (program : Program) (p : Name) (k : ℕ) (at : ℕ → Body) (env : Env) (callers : List Caller) where
+    of_returned : (cs : List Caller) (v : core.Value) → Q (returned cs v)
+    of_returned [] v = end
+    of_returned (c ∷ cs) v = silent _
+
+    of_chosen : (o : Option (Pat × Body)) (v : core.Value) → Q (chosen o env callers v)
+    of_chosen (Some arm) v = silent _
+    of_chosen None v = stuck _
+
+    abbrev pub formed : Node → Act
+    formed x = act_at machine program p k (opened x at) env callers
+
+    -- four forms are told by themselves, and the others have no act but these
+    pub of_form : (R : Node → Type 0) → ((x : Node) → Q (formed x) → R x)
+        → ((term : _) (next : _) (span : _) → R (node.Print term next span))
+        → ((name : _) (name_at : _) (proto : _) (func : _) (func_at : _) (values : _) (proof : _) (next : _) (span : _) → R (node.Fork name name_at proto func func_at values proof next span))
+        → ((channel : _) (channel_at : _) (path : _) (path_at : _) (value : _) (proof : _) (next : _) (span : _) → R (node.Send1 channel channel_at path path_at value proof next span))
+        → ((pat : _) (channel : _) (channel_at : _) (path : _) (path_at : _) (proof : _) (next : _) (span : _) → R (node.Recv1 pat channel channel_at path path_at proof next span))
+        → (x : Node) → R x
+    of_form R lift print fork send receive (node.Print term next span) = print term next span
+    of_form R lift print fork send receive (node.Fork name name_at proto func func_at values proof next span) = fork name name_at proto func func_at values proof next span
+    of_form R lift print fork send receive (node.Send1 channel channel_at path path_at value proof next span) = send channel channel_at path path_at value proof next span
+    of_form R lift print fork send receive (node.Recv1 pat channel channel_at path path_at proof next span) = receive pat channel channel_at path path_at proof next span
+    of_form R lift print fork send receive (node.Let name name_at term next span) = lift _ (of_result _ _ (λ z. silent _))
+    of_form R lift print fork send receive (node.Mul name name_at left right next span) = lift _ (of_result _ _ (λ z. silent _))
+    of_form R lift print fork send receive (node.Div name name_at term divisor divisor_at next span) = lift _ (of_result _ _ (λ z. silent _))
+    of_form R lift print fork send receive (node.Rem name name_at term divisor divisor_at next span) = lift _ (of_result _ _ (λ z. silent _))
+    of_form R lift print fork send receive (node.Call pat func func_at values proof next span) = lift _ (of_result _ _ (λ vs. silent _))
+    of_form R lift print fork send receive (node.Tail func func_at values proof span) = lift _ (of_result _ _ (λ vs. silent _))
+    of_form R lift print fork send receive (node.If left right this other span) = lift _
+        (of_result {A = ℤ} (sum_of machine env (term_of left)) _ (λ a. of_result {A = ℤ} (sum_of machine env (term_of right)) _
+        (λ b. silent (act.at (if◌then◌else◌ {A = Body} (int_le a b) (at this) (at other)) env callers))))
+    of_form R lift print fork send receive (node.Split first second name name_at next span) = lift _ (of_pair _ _ (λ a b. silent _))
+    of_form R lift print fork send receive (node.Match name name_at arms span) = lift _ (of_sum (value_of env name) _ (λ i a. of_chosen (arm_at (arms_opened arms at) i) a))
+    of_form R lift print fork send receive (node.Absurd proof span) = lift _ (stuck _)
+    of_form R lift print fork send receive (node.Ret value proof span) = lift _ (of_result _ _ (of_returned callers))
 
 -- a caller stands at a Call
 pub at_call : (x : Node) (at : ℕ → Body) → IsCall (opened x at) → ((pat : _) (func : _) (func_at : _) (values : _) (proof : _) (next : _) (span : _) → x ≡ node.Call pat func func_at values proof next span → ⊥) → ⊥
@@ -155,68 +170,49 @@ at_call (node.Match name name_at arms span) at call not = call
 at_call (node.Absurd proof span) at call not = call
 at_call (node.Ret value proof span) at call not = call
 
--- an act that a task doesn't make by itself is one of three nodes'
-module _ (P : Act → Type 0) (stuck : (why : _) → P (act.IsStuck why) → ⊥) (halted : (why : _) → P (act.IsHalted why) → ⊥) (silent : (place : Place) → P (act.Silent place) → ⊥)
-    (print : (z : _) (place : Place) → P (act.Print z place) → ⊥) (end : P act.End → ⊥) (program : Program) (p : Name) (k : ℕ) (at : ℕ → Body) (env : Env) (callers : List Caller) where
-  none_returned : (cs : List Caller) (v : core.Value) → P (returned cs v) → ⊥
-  none_returned [] v q = end q
-  none_returned (c ∷ cs) v q = silent _ q
-
-  none_chosen : (o : Option (Pat × Body)) (v : core.Value) → P (chosen o env callers v) → ⊥
-  none_chosen (Some arm) v q = silent _ q
-  none_chosen None v q = stuck _ q
-
-  abbrev pub here : Node → Act
-  here x = act_at machine program p k (opened x at) env callers
-
-  pub exchanged : (Q : Node → Type 0)
-      → ((name : _) (name_at : _) (proto : _) (func : _) (func_at : _) (values : _) (proof : _) (next : _) (span : _) → P (here (node.Fork name name_at proto func func_at values proof next span)) → Q (node.Fork name name_at proto func func_at values proof next span))
-      → ((channel : _) (channel_at : _) (path : _) (path_at : _) (value : _) (proof : _) (next : _) (span : _) → P (here (node.Send1 channel channel_at path path_at value proof next span)) → Q (node.Send1 channel channel_at path path_at value proof next span))
-      → ((pat : _) (channel : _) (channel_at : _) (path : _) (path_at : _) (proof : _) (next : _) (span : _) → P (here (node.Recv1 pat channel channel_at path path_at proof next span)) → Q (node.Recv1 pat channel channel_at path path_at proof next span))
-      → (x : Node) → P (here x) → Q x
-  exchanged Q fork send receive (node.Fork name name_at proto func func_at values proof next span) q = fork name name_at proto func func_at values proof next span q
-  exchanged Q fork send receive (node.Send1 channel channel_at path path_at value proof next span) q = send channel channel_at path path_at value proof next span q
-  exchanged Q fork send receive (node.Recv1 pat channel channel_at path path_at proof next span) q = receive pat channel channel_at path path_at proof next span q
-  exchanged Q fork send receive (node.Let name name_at term next span) q = absurd (none_result P stuck halted _ _ (λ z. silent _) q)
-  exchanged Q fork send receive (node.Mul name name_at left right next span) q = absurd (none_result P stuck halted _ _ (λ z. silent _) q)
-  exchanged Q fork send receive (node.Div name name_at term divisor divisor_at next span) q = absurd (none_result P stuck halted _ _ (λ z. silent _) q)
-  exchanged Q fork send receive (node.Rem name name_at term divisor divisor_at next span) q = absurd (none_result P stuck halted _ _ (λ z. silent _) q)
-  exchanged Q fork send receive (node.Call pat func func_at values proof next span) q = absurd (none_result P stuck halted _ _ (λ z. silent _) q)
-  exchanged Q fork send receive (node.Tail func func_at values proof span) q = absurd (none_result P stuck halted _ _ (λ z. silent _) q)
-  exchanged Q fork send receive (node.Print term next span) q = absurd (none_result P stuck halted _ _ (λ z. print _ _) q)
-  exchanged Q fork send receive (node.If left right this other span) q =
-      absurd (none_result {A = ℤ} P stuck halted (sum_of machine env (term_of left)) _ (λ a. none_result {A = ℤ} P stuck halted (sum_of machine env (term_of right)) _
-      (λ b. silent (act.at (if◌then◌else◌ {A = Body} (int_le a b) (at this) (at other)) env callers))) q)
-  exchanged Q fork send receive (node.Split first second name name_at next span) q = absurd (none_pair P stuck _ _ (λ a b. silent _) q)
-  exchanged Q fork send receive (node.Match name name_at arms span) q = absurd (none_sum P stuck (value_of env name) _ (λ i a. none_chosen (arm_at (arms_opened arms at) i) a) q)
-  exchanged Q fork send receive (node.Absurd proof span) q = absurd (stuck _ q)
-  exchanged Q fork send receive (node.Ret value proof span) q = absurd (none_result P stuck halted _ _ (none_returned callers) q)
-
+-- the act of each of these four forms, where it isn't one of its kind, is none that has a result
 module _ (P : Act → Type 0) (stuck : (why : _) → P (act.IsStuck why) → ⊥) (halted : (why : _) → P (act.IsHalted why) → ⊥) (program : Program) (p : Name) (k : ℕ) (at : ℕ → Body) (env : Env) (callers : List Caller) where
   abbrev pub stands : Node → Act
   stands x = act_at machine program p k (opened x at) env callers
 
+  no_print : ((z : ℤ) (place : Place) → P (act.Print z place) → ⊥) → (term : _) (next : _) (span : _) → P (stands (node.Print term next span)) → ⊥
+  no_print print term next span = of_result (λ a. P a → ⊥) stuck halted {A = ℤ} (sum_of machine env (term_of term)) _ (λ z. print z (act.at (at next) env callers))
+
   no_fork : ((c : Name) (a b : Place) → P (act.Fork c a b) → ⊥) → (name : _) (name_at : _) (proto : _) (func : _) (func_at : _) (values : _) (proof : _) (next : _) (span : _) → P (stands (node.Fork name name_at proto func func_at values proof next span)) → ⊥
   no_fork fork name name_at proto func func_at values proof next span =
-      none_result {A = List core.Value} P stuck halted (all_supplied machine env (map supply_of values)) _ (λ vs. none_forked P halted fork (nat_lt (length p) 1024) (child p k)
-      (act.at (at next) (act.bound env name (core.End (child p k))) callers) (act.entered (function_named func program.funcs) (core.End (child p k) ∷ vs) []))
+      of_result (λ a. P a → ⊥) stuck halted {A = List core.Value} (all_supplied machine env (map supply_of values)) _ (λ vs. of_forked (λ a. P a → ⊥) stuck halted (nat_lt (length p) 1024) (child p k)
+      (act.at (at next) (act.bound env name (core.End (child p k))) callers) (act.entered (function_named func program.funcs) (core.End (child p k) ∷ vs) []) (fork _ _ _))
 
   no_send : ((c : Name) (v : core.Value) (a : Place) → P (act.Send c v a) → ⊥) → (channel : _) (channel_at : _) (path : _) (path_at : _) (value : _) (proof : _) (next : _) (span : _) → P (stands (node.Send1 channel channel_at path path_at value proof next span)) → ⊥
   no_send send channel channel_at path path_at value proof next span =
-      none_result {A = core.Value} P stuck halted (supplied machine env (supply_of value)) _
-      (λ v. none_end P stuck (value_of env channel) (λ d. act.Send d v (act.at (at next) env callers)) (λ d. send d v (act.at (at next) env callers)))
+      of_result (λ a. P a → ⊥) stuck halted {A = core.Value} (supplied machine env (supply_of value)) _
+      (λ v. of_end (λ a. P a → ⊥) stuck halted (value_of env channel) (λ d. act.Send d v (act.at (at next) env callers)) (λ d. send d v (act.at (at next) env callers)))
 
   no_receive : ((c : Name) (a : core.Value → Place) → P (act.Recv c a) → ⊥) → (pat : _) (channel : _) (channel_at : _) (path : _) (path_at : _) (proof : _) (next : _) (span : _) → P (stands (node.Recv1 pat channel channel_at path path_at proof next span)) → ⊥
   no_receive receive pat channel channel_at path path_at proof next span =
       let go : core.Value → Place = λ v. act.at (at next) (act.bound env pat.name v) callers in
-      none_end P stuck (value_of env channel) (λ d. act.Recv d go) (λ d. receive d go)
+      of_end (λ a. P a → ⊥) stuck halted (value_of env channel) (λ d. act.Recv d go) (λ d. receive d go)
 
 module _ (program : Program) (p : Name) (k : ℕ) (at : ℕ → Body) (env : Env) (callers : List Caller) (x : Node) where
-  -- who forks stands at a Fork
+  -- who prints stands at a Print
+  pub at_print : IsPrint (act_at machine program p k (opened x at) env callers) → ((term : _) (next : _) (span : _) → x ≡ node.Print term next span → ⊥) → ⊥
+  at_print = of_form (λ a. IsPrint a → ⊥) (λ why q. q) (λ why q. q) (λ place q. q) (λ q. q) program p k at env callers
+      (λ y. IsPrint (act_at machine program p k (opened y at) env callers) → ((term : _) (next : _) (span : _) → y ≡ node.Print term next span → ⊥) → ⊥)
+      (λ y none q not. none q)
+      (λ term next span q not. not term next span refl)
+      (λ name name_at proto func func_at values proof next span q not. no_fork IsPrint (λ why r. r) (λ why r. r) program p k at env callers (λ c a b r. r) name name_at proto func func_at values proof next span q)
+      (λ channel channel_at path path_at value proof next span q not. no_send IsPrint (λ why r. r) (λ why r. r) program p k at env callers (λ c v a r. r) channel channel_at path path_at value proof next span q)
+      (λ pat channel channel_at path path_at proof next span q not. no_receive IsPrint (λ why r. r) (λ why r. r) program p k at env callers (λ c a r. r) pat channel channel_at path path_at proof next span q)
+      x
+
+  -- who forks at a Fork
   pub at_fork : IsFork (act_at machine program p k (opened x at) env callers)
       → ((name : _) (name_at : _) (proto : _) (func : _) (func_at : _) (values : _) (proof : _) (next : _) (span : _) → x ≡ node.Fork name name_at proto func func_at values proof next span → ⊥) → ⊥
-  at_fork = exchanged IsFork (λ why q. q) (λ why q. q) (λ place q. q) (λ z place q. q) (λ q. q) program p k at env callers
-      (λ y. ((name : _) (name_at : _) (proto : _) (func : _) (func_at : _) (values : _) (proof : _) (next : _) (span : _) → y ≡ node.Fork name name_at proto func func_at values proof next span → ⊥) → ⊥)
+  at_fork = of_form (λ a. IsFork a → ⊥) (λ why q. q) (λ why q. q) (λ place q. q) (λ q. q) program p k at env callers
+      (λ y. IsFork (act_at machine program p k (opened y at) env callers)
+      → ((name : _) (name_at : _) (proto : _) (func : _) (func_at : _) (values : _) (proof : _) (next : _) (span : _) → y ≡ node.Fork name name_at proto func func_at values proof next span → ⊥) → ⊥)
+      (λ y none q not. none q)
+      (λ term next span q not. no_print IsFork (λ why r. r) (λ why r. r) program p k at env callers (λ z place r. r) term next span q)
       (λ name name_at proto func func_at values proof next span q not. not name name_at proto func func_at values proof next span refl)
       (λ channel channel_at path path_at value proof next span q not. no_send IsFork (λ why r. r) (λ why r. r) program p k at env callers (λ c v a r. r) channel channel_at path path_at value proof next span q)
       (λ pat channel channel_at path path_at proof next span q not. no_receive IsFork (λ why r. r) (λ why r. r) program p k at env callers (λ c a r. r) pat channel channel_at path path_at proof next span q)
@@ -225,8 +221,11 @@ module _ (program : Program) (p : Name) (k : ℕ) (at : ℕ → Body) (env : Env
   -- who sends at a Send1
   pub at_send : IsSend (act_at machine program p k (opened x at) env callers)
       → ((channel : _) (channel_at : _) (path : _) (path_at : _) (value : _) (proof : _) (next : _) (span : _) → x ≡ node.Send1 channel channel_at path path_at value proof next span → ⊥) → ⊥
-  at_send = exchanged IsSend (λ why q. q) (λ why q. q) (λ place q. q) (λ z place q. q) (λ q. q) program p k at env callers
-      (λ y. ((channel : _) (channel_at : _) (path : _) (path_at : _) (value : _) (proof : _) (next : _) (span : _) → y ≡ node.Send1 channel channel_at path path_at value proof next span → ⊥) → ⊥)
+  at_send = of_form (λ a. IsSend a → ⊥) (λ why q. q) (λ why q. q) (λ place q. q) (λ q. q) program p k at env callers
+      (λ y. IsSend (act_at machine program p k (opened y at) env callers)
+      → ((channel : _) (channel_at : _) (path : _) (path_at : _) (value : _) (proof : _) (next : _) (span : _) → y ≡ node.Send1 channel channel_at path path_at value proof next span → ⊥) → ⊥)
+      (λ y none q not. none q)
+      (λ term next span q not. no_print IsSend (λ why r. r) (λ why r. r) program p k at env callers (λ z place r. r) term next span q)
       (λ name name_at proto func func_at values proof next span q not. no_fork IsSend (λ why r. r) (λ why r. r) program p k at env callers (λ c a b r. r) name name_at proto func func_at values proof next span q)
       (λ channel channel_at path path_at value proof next span q not. not channel channel_at path path_at value proof next span refl)
       (λ pat channel channel_at path path_at proof next span q not. no_receive IsSend (λ why r. r) (λ why r. r) program p k at env callers (λ c a r. r) pat channel channel_at path path_at proof next span q)
@@ -235,24 +234,30 @@ module _ (program : Program) (p : Name) (k : ℕ) (at : ℕ → Body) (env : Env
   -- and who receives at a Recv1
   pub at_receive : IsRecv (act_at machine program p k (opened x at) env callers)
       → ((pat : _) (channel : _) (channel_at : _) (path : _) (path_at : _) (proof : _) (next : _) (span : _) → x ≡ node.Recv1 pat channel channel_at path path_at proof next span → ⊥) → ⊥
-  at_receive = exchanged IsRecv (λ why q. q) (λ why q. q) (λ place q. q) (λ z place q. q) (λ q. q) program p k at env callers
-      (λ y. ((pat : _) (channel : _) (channel_at : _) (path : _) (path_at : _) (proof : _) (next : _) (span : _) → y ≡ node.Recv1 pat channel channel_at path path_at proof next span → ⊥) → ⊥)
+  at_receive = of_form (λ a. IsRecv a → ⊥) (λ why q. q) (λ why q. q) (λ place q. q) (λ q. q) program p k at env callers
+      (λ y. IsRecv (act_at machine program p k (opened y at) env callers)
+      → ((pat : _) (channel : _) (channel_at : _) (path : _) (path_at : _) (proof : _) (next : _) (span : _) → y ≡ node.Recv1 pat channel channel_at path path_at proof next span → ⊥) → ⊥)
+      (λ y none q not. none q)
+      (λ term next span q not. no_print IsRecv (λ why r. r) (λ why r. r) program p k at env callers (λ z place r. r) term next span q)
       (λ name name_at proto func func_at values proof next span q not. no_fork IsRecv (λ why r. r) (λ why r. r) program p k at env callers (λ c a b r. r) name name_at proto func func_at values proof next span q)
       (λ channel channel_at path path_at value proof next span q not. no_send IsRecv (λ why r. r) (λ why r. r) program p k at env callers (λ c v a r. r) channel channel_at path path_at value proof next span q)
       (λ pat channel channel_at path path_at proof next span q not. not pat channel channel_at path path_at proof next span refl)
+      x
+
+  -- only a Send1 and a Recv1 have a channel
+  pub channel_none : channel_named x ≡ None → channel_in (act_at machine program p k (opened x at) env callers) ≡ None
+  channel_none = of_form (λ a. channel_in a ≡ None) (λ why. refl) (λ why. refl) (λ place. refl) refl program p k at env callers
+      (λ y. channel_named y ≡ None → channel_in (act_at machine program p k (opened y at) env callers) ≡ None)
+      (λ y none named. none)
+      (λ term next span named. of_result (λ a. channel_in a ≡ None) (λ why. refl) (λ why. refl) {A = ℤ} (sum_of machine env (term_of term)) _ (λ z. refl))
+      (λ name name_at proto func func_at values proof next span named.
+      of_result (λ a. channel_in a ≡ None) (λ why. refl) (λ why. refl) {A = List core.Value} (all_supplied machine env (map supply_of values)) _
+      (λ vs. of_forked (λ a. channel_in a ≡ None) (λ why. refl) (λ why. refl) (nat_lt (length p) 1024) _ _ _ refl))
+      (λ channel channel_at path path_at value proof next span named. cc)
+      (λ pat channel channel_at path path_at proof next span named. cc)
       x
 
 -- who forks has a name that isn't too long
 pub forked_short : (b : Bool) (c : Name) (mine its : Place) → IsFork (if b then act.Fork c mine its else act.IsHalted Depth) → b ≡ true
 forked_short true c mine its f = refl
 forked_short false c mine its f = absurd f
-
--- the arm that a match goes into is there
-pub arm_below : (program : Parts) (task : Task) (f : Frame) (x : Node) (name : _) (name_at : _) (arms : _) (span : _) (top : EndsIn task.frames.items f) → rest program.nodes f.node ≡ opened x (rest program.nodes)
-    → x ≡ node.Match name name_at arms span → (number : ℕ) (v : core.Value) → value_of (env_of f.binds.items) name ≡ Some (core.Arm number v) → IsQuiet (act_in program task) → number < length arms
-arm_below program task f x name name_at arms span top opens is number v sums quiet =
-    let env = env_of f.binds.items in
-    let callers = callers_of program.nodes top.0 in
-    let picks = act_there program task f x (node.Match name name_at arms span) top opens is
-    ∙ ap (λ o. on_sum o (λ i w. chosen (arm_at (arms_opened arms (rest program.nodes)) i) env callers w)) sums in
-    quiet_chosen arms number (rest program.nodes) env callers v (subst IsQuiet picks quiet)

@@ -9,3 +9,4 @@ pub mod Arms
 pub mod Unmoved
 pub mod Ends
 pub mod Forms
+pub mod Results

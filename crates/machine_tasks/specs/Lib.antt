@@ -4,5 +4,6 @@ pub mod Fits
 pub mod Moving
 pub mod Ends
 pub mod Steps
+pub mod Attempts
 pub mod Sharing
 pub mod Channels

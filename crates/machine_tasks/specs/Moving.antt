@@ -38,6 +38,12 @@ place_after (act.Fork child parent its) = parent
 place_after (act.Send channel v place) = place
 place_after other = Ended
 
+-- where a task stands once it made its act, where that is Silent or End; another one leaves it where it was
+abbrev pub place_by : Act → Place → Place
+place_by (act.Silent place) old = place
+place_by act.End old = Ended
+place_by other old = old
+
 -- the act is one that concerns no other task and no channel
 abbrev pub IsQuiet : Act → Type 0
 IsQuiet (act.Silent place) = Unit {0}
@@ -45,15 +51,9 @@ IsQuiet (act.Print z place) = Unit {0}
 IsQuiet act.End = Unit {0}
 IsQuiet other = ⊥
 
--- the value is there, and a pair
-abbrev pub IsPair : Option Value → Type 0
-IsPair (Some (value.Pair a b)) = Unit {0}
-IsPair other = ⊥
-
--- the value is there, and an arm
-abbrev pub IsArm : Option Value → Type 0
-IsArm (Some (value.Arm i a)) = Unit {0}
-IsArm other = ⊥
+abbrev pub IsPrint : Act → Type 0
+IsPrint (act.Print z place) = Unit {0}
+IsPrint other = ⊥
 
 -- the top one of the frames, which are given from it on, has room for so many more variables
 abbrev pub RoomFrom : List Frame → ℕ → Type 0

@@ -231,15 +231,16 @@ impl Task {
         ensures name { option_map (λ channel. channel.now.name) result ≡ channel_in (act_in program.now self.now) }
         ensures cell { (test : EndTest) → TaskPasses test self.now → IfSome result (λ channel. test channel.now.name channel.now.cell.0 ≡ true) }
     {
-        if !has_channel(&self.act(program)) {
-            return None;
-        }
         let Some(frame) = self.top() else {
             return None;
         };
-        match channel_name(program.node(frame.node)) {
-            Some(name) => end(lookup(frame.binds.as_slice(), name)),
-            None => None,
+        let Some(name) = channel_name(program.node(frame.node)) else {
+            return None;
+        };
+        if has_channel(&self.act(program)) {
+            end(lookup(frame.binds.as_slice(), name))
+        } else {
+            None
         }
     }
 

@@ -1,17 +1,20 @@
 //! Calls and returns.
-ghost use Rattle.std.specs.Prelude.{◌≡◌, ◌<◌, ◌≤◌, List, [], ◌∷◌, ◌++◌, length, IfSome, OnOk, OnErr};
+ghost use Rattle.std.specs.Prelude.{◌≡◌, ◌<◌, ◌≤◌, List, [], ◌∷◌, ◌++◌, length, IfOk, IfSome, OnOk, OnErr};
 ghost use Rattle.core_language.specs.Acts.{returned};
 ghost use Rattle.core_programs.specs.declared.nodes.Node.{Node};
 ghost use Rattle.machine_values.specs.Cells.{EndTest};
 ghost use Rattle.machine_values.specs.Ends.{ValuePasses, ValuesPass};
 ghost use Rattle.machine_values.specs.Reading.{value_as};
 ghost use Rattle.machine_tasks.specs.declared.tasks.Frame.{Frame};
+ghost use Rattle.machine_tasks.specs.Attempts.{Attempts};
 ghost use Rattle.machine_tasks.specs.Ends.{FramePasses, TaskPasses};
 ghost use Rattle.machine_tasks.specs.Fits.{AtCall, FramesFit, BindsBelow};
+ghost use Rattle.machine_tasks.specs.Kinds.{kind_as, kind_of};
 ghost use Rattle.machine_tasks.specs.Reading.{place_of};
 ghost use Rattle.machine_tasks.specs.Moving.{above, place_after};
 ghost use Rattle.machine_tasks.specs.Steps.{FitsTask, GoesTo, HasTop, IsUnmoved, called, callers_of, waiting};
 
+use crate::acts::Act;
 use crate::entering::enter;
 use crate::moving::keep;
 use crate::tasks::{Frame, Task};
@@ -149,18 +152,21 @@ fn return_to(program: &Program, task: &mut Task, value: Value) -> Result<(), Mem
     Ok(())
 }
 
-/// The top frame ends with this value.
-pub(crate) fn give_back(program: &Program, task: &mut Task, value: Value) -> Result<(), Memory>
+/// The top frame ends with this value. Tells whether the task ends too.
+pub(crate) fn give_back(program: &Program, task: &mut Task, value: Value) -> Result<Act, Memory>
     requires fits { FitsTask program.now task.old }
-    ensures ok { (front : List Frame) (f : Frame) → HasTop task.old front f
-        → OnOk result (GoesTo program.now task.old task.new (place_after (returned (callers_of program.now.nodes front) (value_as value)))) }
+    ensures kind { IfOk result (λ act. (front : List Frame) (f : Frame) → HasTop task.old front f
+        → kind_as act ≡ kind_of (returned (callers_of program.now.nodes front) (value_as value))) }
+    ensures goes { (front : List Frame) (f : Frame) → HasTop task.old front f
+        → OnOk result (Attempts program.now task.old task.new (returned (callers_of program.now.nodes front) (value_as value))) }
     ensures ends { OnOk result ((test : EndTest) → ValuePasses test value → TaskPasses test task.old → TaskPasses test task.new) }
     ensures err { OnErr result (IsUnmoved task.old task.new) }
 {
     if task.frames.len() < 2 {
         task.frames.clear();
-        Ok(())
+        Ok(Act::End)
     } else {
-        return_to(program, task, value)
+        return_to(program, task, value)?;
+        Ok(Act::Silent)
     }
 }

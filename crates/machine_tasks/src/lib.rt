@@ -2,6 +2,7 @@
 #![tactic(auto)]
 
 mod acts;
+mod attempts;
 mod beginning;
 mod calls;
 mod entering;

@@ -1,121 +1,35 @@
 //! Steps that a task makes by itself.
-ghost use Rattle.std.specs.Prelude.{◌≡◌, ◌<◌, length, Some, IfOk, IfSome, IfErr, OnOk, OnErr};
-ghost use Rattle.std.specs.Option.{option_map};
-ghost use Rattle.core_language.specs.Values as core;
-ghost use Rattle.machine_values.specs.Cells.{EndTest};
-ghost use Rattle.machine_values.specs.Ends.{ValuePasses};
-ghost use Rattle.machine_values.specs.Reading.{value_as};
-ghost use Rattle.machine_tasks.specs.Ends.{NoNewEnds, TaskPasses};
+ghost use Rattle.std.specs.Prelude.{◌≡◌, IfOk, IfErr, OnOk, OnErr};
+ghost use Rattle.machine_tasks.specs.Attempts.{Attempts};
+ghost use Rattle.machine_tasks.specs.Ends.{NoNewEnds};
+ghost use Rattle.machine_tasks.specs.Kinds.{kind_as, kind_of};
+ghost use Rattle.machine_tasks.specs.Moving.{IsPrint, IsQuiet};
 ghost use Rattle.machine_tasks.specs.Reading.{act_in};
-ghost use Rattle.machine_tasks.specs.Moving.{IsArm, IsPair, IsQuiet, at_node, bound_in, place_with};
-ghost use Rattle.machine_tasks.specs.Steps.{Advances, FitsTask, GoesTo, IsUnmoved, place_in};
+ghost use Rattle.machine_tasks.specs.Steps.{Advances, FitsTask, IsUnmoved};
 
-use crate::calls::{call, give_back, tail};
+use crate::acts::Act;
+use crate::attempts::{
+    arm_of, at_most, parts, try_assign, try_call, try_choose, try_pick, try_return, try_split,
+    try_tail,
+};
 use crate::tasks::Task;
 use chan_base::Memory;
-use chan_syntax::Ident;
 use core_programs::{Node, Program};
-use machine_values::{
-    Bind, Value, lookup, make, make_all, product_of_sums, quotient, remainder, sum,
-};
+use machine_values::{StuckWhy, lookup, make, make_all, product_of_sums, quotient, remainder, sum};
 use std::alloc::Global;
 
-/// Binds the value and goes on at the node.
-fn assign(
-    program: &Program,
-    task: &mut Task,
-    name: &Ident,
-    value: Value,
-    next: u32,
-) -> Result<(), Memory>
-    requires next { next < length program.now.nodes }
-    requires fits { FitsTask program.now task.old }
-    ensures ok { OnOk result (GoesTo program.now task.old task.new
-        (place_with program.now.nodes name.now (value_as value) next (place_in program.now task.old))) }
-    ensures ends { OnOk result ((test : EndTest) → ValuePasses test value → TaskPasses test task.old → TaskPasses test task.new) }
-    ensures err { OnErr result (IsUnmoved task.old task.new) }
-{
-    let name = name.copy()?;
-    task.make_room(1)?;
-    task.bind(Bind { name, value });
-    task.go_on(program, next);
-    Ok(())
-}
-
-/// Copies of the parts of a pair.
-fn parts(value: Option<&Value>) -> Result<(Value, Value), Memory>
-    requires { IsPair (option_map (λ v. value_as v.now) value) }
-    ensures parts { IfOk result (λ p. option_map (λ v. value_as v.now) value.entry ≡ Some (core.Pair (value_as p.0) (value_as p.1))) }
-    ensures ends { IfOk result (λ p. (test : EndTest) → IfSome value.entry (λ v. ValuePasses test v.now) → ValuePasses test p.0 × ValuePasses test p.1) }
-{
-    match value {
-        Some(Value::Pair(first, second)) => {
-            let first = first.get().copy()?;
-            let second = second.get().copy()?;
-            Ok((first, second))
-        }
-        _ => unreachable!(),
-    }
-}
-
-/// Binds the parts of the pair and goes on at the node.
-fn split(
-    program: &Program,
-    task: &mut Task,
-    first: &Ident,
-    second: &Ident,
-    parts: (Value, Value),
-    next: u32,
-) -> Result<(), Memory>
-    requires next { next < length program.now.nodes }
-    requires fits { FitsTask program.now task.old }
-    ensures ok { OnOk result (GoesTo program.now task.old task.new
-        (at_node program.now.nodes next (bound_in second.now (value_as parts.1) (bound_in first.now (value_as parts.0) (place_in program.now task.old))))) }
-    ensures ends { OnOk result ((test : EndTest) → ValuePasses test parts.0 → ValuePasses test parts.1 → TaskPasses test task.old → TaskPasses test task.new) }
-    ensures err { OnErr result (IsUnmoved task.old task.new) }
-{
-    let first = first.copy()?;
-    let second = second.copy()?;
-    task.make_room(2)?;
-    task.bind(Bind {
-        name: first,
-        value: parts.0,
-    });
-    task.bind(Bind {
-        name: second,
-        value: parts.1,
-    });
-    task.go_on(program, next);
-    Ok(())
-}
-
-/// The number and a copy of the value of an arm.
-fn arm_of(value: Option<&Value>) -> Result<(u8, Value), Memory>
-    requires { IsArm (option_map (λ v. value_as v.now) value) }
-    ensures arm { IfOk result (λ p. option_map (λ v. value_as v.now) value.entry ≡ Some (core.Arm p.0 (value_as p.1))) }
-    ensures ends { IfOk result (λ p. (test : EndTest) → IfSome value.entry (λ v. ValuePasses test v.now) → ValuePasses test p.1) }
-{
-    match value {
-        Some(Value::Arm(number, part)) => {
-            let number = *number;
-            let part = part.get().copy()?;
-            Ok((number, part))
-        }
-        _ => unreachable!(),
-    }
-}
-
 impl Task {
-    /// Makes the step of a task whose act is Silent, Print or End.
-    pub fn advance(&mut self, alloc: Global, program: &Program) -> Result<(), Memory>
+    /// Makes the step of a task whose act is Silent or End, and tells the act. Another act is told
+    /// and not made.
+    pub fn try_step(&mut self, alloc: Global, program: &Program) -> Result<Act, Memory>
         requires fits { FitsTask program.now self.old }
-        requires act { IsQuiet (act_in program.now self.old) }
-        ensures ok { OnOk result (Advances program.now self.old self.new) }
+        ensures kind { IfOk result (λ act. kind_as act ≡ kind_of (act_in program.now self.old)) }
+        ensures goes { OnOk result (Attempts program.now self.old self.new (act_in program.now self.old)) }
         ensures ends { OnOk result (NoNewEnds self.old self.new) }
         ensures err { OnErr result (IsUnmoved self.old self.new) }
     {
         let Some(frame) = self.top() else {
-            unreachable!();
+            return Ok(Act::Ended);
         };
         let binds = frame.binds.as_slice();
         match program.node(frame.node) {
@@ -125,8 +39,8 @@ impl Task {
                 next,
                 ..
             } => {
-                let number = sum(binds, term).unwrap();
-                assign(program, self, name, Value::Int(number), *next)
+                let number = sum(binds, term);
+                try_assign(program, self, name, number, *next)
             }
             Node::Mul {
                 name,
@@ -135,8 +49,8 @@ impl Task {
                 next,
                 ..
             } => {
-                let number = product_of_sums(binds, left, right).unwrap();
-                assign(program, self, name, Value::Int(number), *next)
+                let number = product_of_sums(binds, left, right);
+                try_assign(program, self, name, number, *next)
             }
             Node::Div {
                 name,
@@ -145,8 +59,8 @@ impl Task {
                 next,
                 ..
             } => {
-                let number = quotient(binds, term, *divisor).unwrap();
-                assign(program, self, name, Value::Int(number), *next)
+                let number = quotient(binds, term, *divisor);
+                try_assign(program, self, name, number, *next)
             }
             Node::Rem {
                 name,
@@ -155,25 +69,8 @@ impl Task {
                 next,
                 ..
             } => {
-                let number = remainder(binds, term, *divisor).unwrap();
-                assign(program, self, name, Value::Int(number), *next)
-            }
-            Node::Call {
-                func,
-                values,
-                next,
-                ..
-            } => {
-                let values = make_all(alloc, binds, values.as_slice())?.unwrap();
-                call(alloc, program, self, func, values, *next)
-            }
-            Node::Tail { func, values, .. } => {
-                let values = make_all(alloc, binds, values.as_slice())?.unwrap();
-                tail(alloc, program, self, func, values)
-            }
-            Node::Print { next, .. } => {
-                self.go_on(program, *next);
-                Ok(())
+                let number = remainder(binds, term, *divisor);
+                try_assign(program, self, name, number, *next)
             }
             Node::If {
                 left,
@@ -182,10 +79,21 @@ impl Task {
                 no,
                 ..
             } => {
-                let left = sum(binds, left).unwrap();
-                let right = sum(binds, right).unwrap();
-                self.go_on(program, if left <= right { *yes } else { *no });
-                Ok(())
+                let less = at_most(binds, left, right);
+                Ok(try_choose(program, self, less, *yes, *no))
+            }
+            Node::Call {
+                func,
+                values,
+                next,
+                ..
+            } => {
+                let values = make_all(alloc, binds, values.as_slice())?;
+                try_call(alloc, program, self, func, values, *next)
+            }
+            Node::Tail { func, values, .. } => {
+                let values = make_all(alloc, binds, values.as_slice())?;
+                try_tail(alloc, program, self, func, values)
             }
             Node::Split {
                 first,
@@ -195,26 +103,56 @@ impl Task {
                 ..
             } => {
                 let parts = parts(lookup(binds, pair))?;
-                split(program, self, &first.name, &second.name, parts, *next)
+                try_split(program, self, &first.name, &second.name, parts, *next)
             }
             Node::Match {
                 name: choice,
                 arms,
                 ..
             } => {
-                let (number, value) = arm_of(lookup(binds, choice))?;
-                let arm = &arms.as_slice()[usize::from(number)];
-                assign(program, self, &arm.pat.name, value, arm.next)
+                let found = arm_of(lookup(binds, choice))?;
+                try_pick(program, self, arms.as_slice(), found)
             }
             Node::Ret { value, .. } => {
-                let value = make(alloc, binds, value)?.unwrap();
-                give_back(program, self, value)
+                let value = make(alloc, binds, value)?;
+                try_return(program, self, value)
             }
-            Node::Fork { .. } => unreachable!(),
-            Node::Send1 { .. } => unreachable!(),
-            Node::Recv1 { .. } => unreachable!(),
-            Node::Absurd { .. } => unreachable!(),
+            Node::Print { .. } => Ok(self.act(program)),
+            Node::Fork { .. } => Ok(self.act(program)),
+            Node::Send1 { .. } => Ok(self.act(program)),
+            Node::Recv1 { .. } => Ok(self.act(program)),
+            Node::Absurd { .. } => Ok(Act::Stuck(StuckWhy::Absurd)),
         }
+    }
+
+    /// Makes the step of a task whose act is Print. It takes no memory.
+    pub fn print(&mut self, program: &Program)
+        requires fits { FitsTask program.now self.old }
+        requires act { IsPrint (act_in program.now self.old) }
+        ensures goes { Advances program.now self.old self.new }
+        ensures ends { NoNewEnds self.old self.new }
+    {
+        let Some(frame) = self.top() else {
+            unreachable!();
+        };
+        let Node::Print { next, .. } = program.node(frame.node) else {
+            unreachable!();
+        };
+        self.go_on(program, *next);
+    }
+
+    /// Makes the step of a task whose act is Silent, Print or End.
+    pub fn advance(&mut self, alloc: Global, program: &Program) -> Result<(), Memory>
+        requires fits { FitsTask program.now self.old }
+        requires act { IsQuiet (act_in program.now self.old) }
+        ensures ok { OnOk result (Advances program.now self.old self.new) }
+        ensures ends { OnOk result (NoNewEnds self.old self.new) }
+        ensures err { OnErr result (IsUnmoved self.old self.new) }
+    {
+        if let Act::Print(_) = self.try_step(alloc, program)? {
+            self.print(program);
+        }
+        Ok(())
     }
 
     /// Makes the step of a task whose act is Silent, Print or End.

@@ -3,3 +3,4 @@ pub mod Ways
 pub mod Searching
 pub mod Repeats
 pub mod Tables
+pub mod Falling

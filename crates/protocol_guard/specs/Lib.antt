@@ -3,3 +3,4 @@ pub mod Searches
 pub mod Places
 pub mod Cycles
 pub mod Faults
+pub mod Ranks

@@ -46,14 +46,12 @@ fn add_name(names: &mut Idents, protos: &[Proto], at: Option<usize>) -> Result<(
     }
 }
 
-#[tactic(auto, using(crate::proofs::Tables::no_step))]
 fn next(graph: &[Turns], at: Option<usize>, turn: Letter) -> Option<usize>
     ensures { result ≡ option_and_then (λ i. step graph.now i turn) at }
 {
     match at {
         None => None,
-        Some(place) if place < graph.len() => lead(graph, place, turn),
-        Some(_) => None,
+        Some(place) => lead(graph, place, turn),
     }
 }
 

@@ -4,6 +4,7 @@
 mod cycles;
 mod graphs;
 mod guarding;
+mod ranks;
 mod searches;
 
 pub use cycles::{FirstCycle, find_cycle};

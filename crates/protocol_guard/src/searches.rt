@@ -28,7 +28,7 @@ pub(crate) struct Search {
 }
 
 #[tactic(auto, using(crate::proofs::Repeats::replicate_more))]
-fn unseen(alloc: Global, count: usize) -> Result<Vec<bool>, Memory>
+pub(crate) fn unseen(alloc: Global, count: usize) -> Result<Vec<bool>, Memory>
     ensures { IfOk result (λ seen. seen.items ≡ replicate count false) }
 {
     let mut seen = Vec::with_capacity(alloc, count)?;
@@ -57,7 +57,6 @@ fn begin(alloc: Global, graph: &[Turns], start: usize) -> Result<Search, Memory>
 /// Where a turn leads from a place.
 #[tactic(auto, unfolding(crate::specs::Guards::step))]
 pub(crate) fn lead(graph: &[Turns], place: usize, turn: Letter) -> Option<usize>
-    requires { place < length graph.now }
     ensures { result ≡ step graph.now place turn }
 {
     match graph.get(place) {

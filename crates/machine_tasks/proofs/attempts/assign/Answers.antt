@@ -4,7 +4,7 @@ use Rattle.machine_values.specs.Reading.{value_as}
 use Rattle.machine_tasks.specs.Moving.{at_node, bound_in}
 use Rattle.machine_tasks.specs.Steps.{place_in}
 use Rattle.machine_tasks.proofs.Unmoved.{unmoved_fits, unmoved_passes, unmoved_place}
-use Rattle.machine_tasks.proofs.quiet.assign.Goals as goal
+use Rattle.machine_tasks.proofs.attempts.assign.Goals as goal
 
 pub go_on-requires-clause-fits : goal.go_on-requires-clause-fits
 go_on-requires-clause-fits c = c.bind.ensures.fits _ (unmoved_fits c.args.program.now c.args.task.now c.make_room.new.self c.make_room.ensures.same c.requires.fits)

@@ -5,7 +5,7 @@ use Rattle.machine_tasks.specs.Moving.{at_node, bound_in}
 use Rattle.machine_tasks.specs.Steps.{place_in}
 use Rattle.machine_tasks.proofs.Places.{less_room}
 use Rattle.machine_tasks.proofs.Unmoved.{unmoved_fits, unmoved_passes, unmoved_place}
-use Rattle.machine_tasks.proofs.quiet.split.Goals as goal
+use Rattle.machine_tasks.proofs.attempts.split.Goals as goal
 
 pub bind-requires : goal.bind-requires
 bind-requires c = less_room c.make_room.new.self.frames.items 1 c.in_ok-make_room.ensures.room
