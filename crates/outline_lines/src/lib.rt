@@ -123,12 +123,7 @@ fn add_why(alloc: Global, text: &mut Vec<u8>, names: &[Ident], why: &Why) -> Res
 
 /// The line of a fault, which stands at a place: why a rule failed, where the integer variables of its
 /// context have these names.
-pub fn outline_line(
-    alloc: Global,
-    span: Span,
-    why: &Why,
-    names: &[Ident],
-) -> Result<Bytes, Memory>
+pub fn outline_line(alloc: Global, span: Span, why: &Why, names: &[Ident]) -> Result<Bytes, Memory>
     ensures { IfOk result (λ text. text ≡ spec.outline_line (fault_at span why.now names.now)) }
 {
     let mut text = Vec::from_slice(alloc, b"outline ")?;
