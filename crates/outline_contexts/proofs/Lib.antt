@@ -1,0 +1,10 @@
+pub mod Names
+pub mod Trails
+pub mod Held
+pub mod Entries
+pub mod Begun
+pub mod Lefts
+pub mod Keeping
+pub mod Adding
+pub mod Meanings
+pub mod Bound

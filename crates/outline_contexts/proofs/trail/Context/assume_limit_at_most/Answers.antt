@@ -1,0 +1,6 @@
+use Rattle.nameless_forms.specs.Differences.{difference_at}
+use Rattle.outline_obligations.proofs.Rows.{formed_narrow}
+use Rattle.outline_contexts.proofs.trail.Context.assume_limit_at_most.Goals as goal
+
+pub assume_row-requires : goal.assume_row-requires
+assume_row-requires c = formed_narrow c.variables.result (difference_at c.args.instances.now c.args.left.now c.args.right.now) c.in_ok-row.row c.in_ok-row.ensures.ok c.variables.ensures.few
