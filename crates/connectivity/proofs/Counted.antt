@@ -1,5 +1,5 @@
 -- What becomes of the counts of nodes where one more name, node or edge is counted.
-use Rattle.std.proofs.Common.{◌≡◌, ℕ, ◌+◌, ◌==◌, min, Bool, true, false, cond, Ordering, Less, Equal, Greater, List, [], ◌∷◌, Option, Some, refl, sym, ap, subst, ◌∙◌, arith}
+use Rattle.std.proofs.Common.{◌≡◌, ℕ, ◌+◌, ◌==◌, min, Bool, true, false, cond, Ordering, Less, Equal, Greater, Some, refl, sym, ap, ◌∙◌, arith}
 use Rattle.std.specs.Option.{unwrap_or}
 use Rattle.std.specs.Ordering.{is_eq, nat_cmp, eq_by_cmp}
 use Rattle.std.specs.Cmp.Lexicographic.{slice_cmp, nat_list_cmp_total}
@@ -7,8 +7,6 @@ use Rattle.std.specs.BTreeMap.{BTreeMap, Updates}
 use Rattle.std.proofs.lemmas.Cmp.{eq_by_cmp_equiv}
 use Rattle.std.proofs.lemmas.Map.Lookups.{exact_bytes}
 use Rattle.core_language.specs.Names.{Name, same_name}
-use Rattle.graphs.specs.Graph.{Node, task, channel, same_node}
-use Rattle.held_ends.specs.Edges.{Edge, times}
 use Rattle.connectivity.specs.Counting.{CountsName, counted, more}
 
 equal_from : (o : Ordering) → is_eq o ≡ true → o ≡ Equal

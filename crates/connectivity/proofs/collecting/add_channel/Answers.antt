@@ -1,4 +1,4 @@
-use Rattle.std.proofs.Common.{◌≡◌, ◌++◌, List, append-nil, rules, ap, sym, ◌∙◌}
+use Rattle.std.proofs.Common.{◌++◌, List, append-nil, rules, ap, sym, ◌∙◌}
 use Rattle.std.proofs.lemmas.Result.{on_ok_weaker}
 use Rattle.core_language.specs.Names.{Name}
 use Rattle.graphs.specs.Graph.{channel}

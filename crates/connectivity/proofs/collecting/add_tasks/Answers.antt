@@ -1,7 +1,7 @@
-use Rattle.std.proofs.Common.{◌≡◌, ◌++◌, List, arith}
+use Rattle.std.proofs.Common.{◌++◌, arith}
 use Rattle.std.specs.FinMap.{get}
 use Rattle.core_language.specs.Names.{Name}
-use Rattle.held_ends.specs.Edges.{Edge, task_edges, tasks_edges}
+use Rattle.held_ends.specs.Edges.{task_edges, tasks_edges}
 use Rattle.chan_machine.specs.Reading.{config_of}
 use Rattle.connectivity.specs.Reading.{edges_as}
 use Rattle.connectivity.proofs.Items.{last_item, next_item}

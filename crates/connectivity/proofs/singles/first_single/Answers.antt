@@ -1,4 +1,4 @@
-use Rattle.std.proofs.Common.{◌≡◌, ◌∙◌, ◌==◌, ◌||◌, Bool, ap}
+use Rattle.std.proofs.Common.{◌∙◌, ◌==◌, ◌||◌, Bool, ap}
 use Rattle.held_ends.specs.Edges.{Edge, has_single, times}
 use Rattle.connectivity.specs.Counting.{seen}
 use Rattle.connectivity.specs.Reading.{edge_as, edges_as}
