@@ -11,7 +11,7 @@ use Rattle.core_programs.specs.declared.nodes.Node.{Node}
 use Rattle.core_programs.specs.declared.nodes.Func.{Func}
 use Rattle.core_programs.specs.Bodies.{function_of}
 use Rattle.outline_language.specs.Nameless.{limit_fits, shape_fits}
-use Rattle.outline_language.specs.Paths.{Direction, Fork, fork_of, written_message}
+use Rattle.outline_language.specs.Equations.{Direction, Fork, fork_of, written_message}
 use Rattle.outline_language.specs.Rules.{limits_of, param_shapes}
 use Rattle.function_headers.specs.Headers.{header_read, header_fits, header_named, shape_read}
 use Rattle.protocol_tables.specs.Protocols.{fork_read, message_read, fork_fits, message_fits, fits_where, protocol_read, protocol_fits}
