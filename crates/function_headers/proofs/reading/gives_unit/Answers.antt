@@ -3,7 +3,8 @@ use Rattle.std.specs.Prelude.{IsTrue}
 use Rattle.core_language.specs.Resources as written
 use Rattle.chan_syntax.specs.declared.linear.Limit.{Limit}
 use Rattle.chan_syntax.specs.Reading.{limit_of, bound_of, shape_of}
-use Rattle.outline_language.specs.Rules.{is_nil, is_bare_unit}
+use Rattle.core_language.specs.Endings.{is_nil}
+use Rattle.outline_language.specs.Rules.{is_bare_unit}
 use Rattle.function_headers.proofs.reading.gives_unit.Goals as goal
 
 -- the test of a list that is read
