@@ -1,4 +1,0 @@
-pub mod Held
-pub mod Counted
-pub mod Places
-pub mod Items
