@@ -4,13 +4,13 @@
 #[cfg(test)]
 mod branches;
 #[cfg(test)]
+mod choices;
+#[cfg(test)]
 mod chosen_arms;
 #[cfg(test)]
 mod matches;
 #[cfg(test)]
 mod nesting;
-#[cfg(test)]
-mod protocols;
 #[cfg(test)]
 mod rows;
 #[cfg(test)]

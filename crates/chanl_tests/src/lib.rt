@@ -2,6 +2,8 @@
 #![tactic(auto)]
 
 #[cfg(test)]
+mod accepted;
+#[cfg(test)]
 mod endings;
 #[cfg(test)]
 mod formats;
@@ -9,6 +11,8 @@ mod formats;
 mod replays;
 #[cfg(test)]
 mod runs;
+#[cfg(test)]
+mod sessions;
 #[cfg(test)]
 mod spellings;
 #[cfg(test)]

@@ -243,28 +243,6 @@ fn main() -> unit { f(1) with [1] }
     ),
 ];
 
-/// Texts with a form of sessions, most of them with faults of form besides.
-const SESSIONS: &str = "\
-proto P() = choice Q of P() | P();
-proto P() = offer Q of P() | P();
-fn f() -> unit { let d = send c: P() 4; ret () }
-fn f() -> unit { let (v, z) = recv c; ret () }
-fn f() -> unit { close c; ret () }
-fn f() -> unit { wait c; ret () }
-fn f() -> unit { let d = left c: P(); ret () }
-fn f() -> unit { let d = right c: P(); ret () }
-fn f() -> unit { branch c as b, z { ret () } else { ret () } }
-fn f() -> unit { let c = fork P() do w(y: unit) { ret () }; ret () }
-fn f() -> unit { loop L() -> unit { ret () } }
-fn f() -> unit { again() }
-fn f() -> unit { if 0 <= 1 { close c; ret () } else { ret () } }
-fn f() -> unit { if 0 <= 1 { ret () } else { again() } }
-fn f() -> unit { match s { inl a { wait c; ret () } inr b { ret () } } }
-fn f() -> unit { match s { inl a { ret () } inr b { if 0 <= 1 { ret () } else { close c; ret () } } } }
-fn main() -> unit { ret () } fn main() -> unit { wait c; ret () }
-proto P() = close; proto P() = wait; fn main() -> unit { again() }
-";
-
 #[test]
 fn operations_compute(rt: HostRuntime) -> Result<(), Fail> {
     bodies_end(&rt, BODIES, 0)
@@ -292,20 +270,6 @@ fn layout_and_comments_change_nothing(rt: HostRuntime) -> Result<(), Fail> {
         let (status, written) = answer(rt.alloc(), REPLAY, text)?;
         assert_eq!(rt; status, 0);
         assert_eq!(rt; written.as_slice(), output);
-    }
-    Ok(())
-}
-
-#[test]
-fn sessions_do_not_run_yet(rt: HostRuntime) -> Result<(), Fail> {
-    for text in SESSIONS.lines() {
-        let (status, written) = answer(rt.alloc(), REPLAY, text.as_bytes())?;
-        assert_eq!(rt;
-            written.as_slice(),
-            b"refused not yet\n".as_slice(),
-            "{text}"
-        );
-        assert_eq!(rt; status, 1, "{text}");
     }
     Ok(())
 }

@@ -63,14 +63,25 @@ const TOO_FEW: [Row; 3] = [
 ];
 
 /// Words that are no command.
-const USAGE: [&[&str]; 40] = [
+const USAGE: [&[&str]; 51] = [
     &[],
-    &["run"],
-    &["check"],
-    &["history"],
-    &["core"],
-    &["follow"],
-    &["make", "3"],
+    &["check", "--rounds=1"],
+    &["check", "--rounds", "5"],
+    &["core", "3"],
+    &["run", "--workers", "0"],
+    &["run", "--workers", "65"],
+    &["run", "--cells=15"],
+    &["run", "--cells=1048577"],
+    &["run", "--rounds=0"],
+    &["run", "3"],
+    &["history", "--workers=2", "--workers=2"],
+    &["history", "--", "--workers=2"],
+    &["follow", "--rounds=1"],
+    &["follow", "follow"],
+    &["make"],
+    &["make", "0"],
+    &["make", "5001"],
+    &["make", "1", "2"],
     &["replay", "replay"],
     &["replay", "x"],
     &["replay "],

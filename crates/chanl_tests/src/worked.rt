@@ -2,7 +2,7 @@
 use row_answers::{answer, lines};
 use std::test::Fail;
 
-/// Programs, each with what it shows, and what `replay` writes, where ` / ` stands for a line end.
+/// Programs, each with what it shows, and what `replay` writes of at most 50 rounds, where ` / ` stands for a line end.
 const PROGRAMS: [(&str, &[u8], &str, u8); 15] = [
     (
         "one print",
@@ -33,8 +33,8 @@ fn main() -> unit {
   close d; ret ()
 }
 ",
-        "refused not yet",
-        1,
+        "4 / finished",
+        0,
     ),
     (
         "a certificate",
@@ -111,8 +111,8 @@ fn main() -> unit {
   }
 }
 ",
-        "refused not yet",
-        1,
+        "1 / 1 / 1 / 1 / 1 / 1 / 1 / 1 / 1 / 1 / 1 / 1 / stopped rounds",
+        4,
     ),
     (
         "a number out of range",
@@ -123,8 +123,8 @@ fn main() -> unit {
   print 1; print 2; wait c; ret ()
 }
 ",
-        "refused not yet",
-        1,
+        "1 / 2 / finished",
+        0,
     ),
     (
         "the order of prints",
@@ -136,8 +136,8 @@ fn main() -> unit {
   wait d; wait c; ret ()
 }
 ",
-        "refused not yet",
-        1,
+        "20 / 10 / finished",
+        0,
     ),
     (
         "ping and pong",
@@ -167,8 +167,8 @@ fn main() -> unit {
   }
 }
 ",
-        "refused not yet",
-        1,
+        "stopped rounds",
+        4,
     ),
     (
         "tasks nested deep",
@@ -179,8 +179,8 @@ fn deep [n](y: end ~Fin(), m: int(n)) -> unit {
 }
 fn main() -> unit { let c = fork Fin() deep(1023) with [1023]; wait c; print 1; ret () }
 ",
-        "refused not yet",
-        1,
+        "stopped rounds",
+        4,
     ),
     (
         "a choice",
@@ -200,8 +200,8 @@ fn main() -> unit {
   close e; ret ()
 }
 ",
-        "refused not yet",
-        1,
+        "1 / finished",
+        0,
     ),
     (
         "what cannot be",
@@ -233,7 +233,7 @@ fn spellings_are_settled(rt: HostRuntime) -> Result<(), Fail> {
 #[test]
 fn worked_programs_are_replayed(rt: HostRuntime) -> Result<(), Fail> {
     for (shown, text, output, wanted) in PROGRAMS {
-        let (status, written) = answer(rt.alloc(), &["replay"], text)?;
+        let (status, written) = answer(rt.alloc(), &["replay", "--rounds", "50"], text)?;
         let output = lines(rt.alloc(), output)?;
         assert_eq!(rt; written.as_slice(), output.as_slice(), "{shown}");
         assert_eq!(rt; status, wanted, "{shown}");

@@ -1,5 +1,5 @@
 //! The whole program.
-ghost use Rattle.std.specs.Prelude.{◌≡◌, ◌++◌, ◌≤◌, IfOk, OnOk};
+ghost use Rattle.std.specs.Prelude.{◌≡◌, ◌++◌, ◌≤◌, length, IfOk, OnOk};
 ghost use Rattle.made_programs.specs.Texts as spec;
 
 use crate::declarations::put_declarations;
@@ -87,9 +87,7 @@ fn put_answers(alloc: Global, text: &mut Vec<u8>, count: u32) -> Result<(), Memo
     )
 }
 
-/// The text of the program for a number, at most 5,000: it forks a pipeline of so many stages, as
-/// many tasks that hand an end on, and a tree of 127 tasks.
-pub fn make_text(alloc: Global, number: u32) -> Result<Bytes, Memory>
+fn put_program(alloc: Global, number: u32) -> Result<Bytes, Memory>
     requires { number ≤ 5000 }
     ensures { IfOk result (λ text. text ≡ spec.made_text number) }
 {
@@ -99,4 +97,15 @@ pub fn make_text(alloc: Global, number: u32) -> Result<Bytes, Memory>
     put_delegation(alloc, &mut text, number)?;
     put_answers(alloc, &mut text, number)?;
     Ok(Bytes::from_vec(text))
+}
+
+/// The text of the program for a number, at most 5,000: it forks a pipeline of so many stages, as
+/// many tasks that hand an end on, and a tree of 127 tasks.
+pub fn make_text(alloc: Global, number: u32) -> Result<Bytes, Memory>
+    requires { number ≤ 5000 }
+    ensures text { IfOk result (λ text. text ≡ spec.made_text number) }
+    ensures short { IfOk result (λ text. length text ≤ 1048576) }
+{
+    let text = put_program(alloc, number)?;
+    Ok(text)
 }

@@ -1,0 +1,4 @@
+pub mod Checks
+pub mod Tables
+pub mod Saving
+pub mod Codes

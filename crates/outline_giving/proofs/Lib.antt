@@ -1,0 +1,4 @@
+pub mod Pairwise
+pub mod OneByOne
+pub mod Supplies
+pub mod Values

@@ -1,0 +1,5 @@
+pub mod Answers
+pub mod Giving
+pub mod Obligations
+pub mod Parts
+pub mod Asking
