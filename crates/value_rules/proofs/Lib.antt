@@ -1,0 +1,3 @@
+mod InParts
+mod Sides
+mod Tried
