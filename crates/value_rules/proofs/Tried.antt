@@ -1,5 +1,5 @@
 -- Arms that are tried one by one.
-use Rattle.std.proofs.Common.{◌≡◌, ℕ, zero, suc, ◌-◌, ◌<◌, ◌≤◌, Bool, true, false, if◌then◌else◌, slice_get, List, [], ◌∷◌, length, drop, Option, Some, None, Result, Ok, Err, Bor, refl, sym, ap, ◌∙◌, arith}
+use Rattle.std.proofs.Common.{◌≡◌, ℕ, zero, suc, ◌-◌, ◌<◌, ◌≤◌, Bool, true, false, if◌then◌else◌, slice_get, List, [], ◌∷◌, length, Option, Some, None, Result, Ok, Err, Bor, refl, sym, ap, ◌∙◌, arith}
 use Rattle.std.specs.Option.{option_map, option_copied, MatchOption}
 use Rattle.std.specs.List.{HoldsAt}
 use Rattle.std.proofs.lemmas.Option.{slice_get_read}
@@ -129,9 +129,3 @@ module _ (at : ℕ → Body) where
     bound_past past =
         ap (λ (o : Option (Pat × Body)). and_then (or_why o WrongForm) (λ arm. bind ctx arm.0 res))
         (arm_there arms k ∙ ap (option_map (λ (b : Arm). (pat_of b.pat, at b.next))) (nothing_past arms k past))
-
-pub all_dropped : {A : Type 0} (k : ℕ) (xs : List A) → length xs ≤ k → drop k xs ≡ []
-all_dropped zero [] le = refl
-all_dropped zero (x ∷ xs) le = absurd (omega (arith, le))
-all_dropped (suc k) [] le = refl
-all_dropped (suc k) (x ∷ xs) le = all_dropped k xs (omega (arith, le))

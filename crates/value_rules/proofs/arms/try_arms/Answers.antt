@@ -1,10 +1,10 @@
 use Rattle.std.proofs.Common.{◌≡◌, ℕ, ◌+◌, ◌<◌, ◌≤◌, drop, get_or, length, Ok, ◌∙◌, subst, arith}
-use Rattle.std.proofs.lemmas.List.{drop_more, get_or_read}
+use Rattle.std.proofs.lemmas.List.{drop_more, drop_all, get_or_read}
 use Rattle.chan_syntax.specs.Reading.{pat_of}
 use Rattle.outline_language.specs.Nameless.{Res}
 use Rattle.outline_language.specs.Contexts.{bind}
 use Rattle.outline_contexts.specs.Trails.{Trail, context_in}
-use Rattle.value_rules.proofs.Tried.{bound_from, arm_goes, none_left, all_dropped}
+use Rattle.value_rules.proofs.Tried.{bound_from, arm_goes, none_left}
 use Rattle.value_rules.proofs.arms.try_arms.Goals as goal
 
 pub loop-index-preserved : goal.loop-index-preserved
@@ -32,4 +32,4 @@ returns-clause-ok c = λ at.
     let none : length c.args.arms.now ≤ i = omega (arith, c.loop-index-test.false) in
     let no_res : length c.args.resources.now ≤ i = omega (arith, none, c.requires) in
     none_left at (context_in c.args.ctx.now) (drop i c.args.resources.now) (drop i c.args.arms.now) (bound_from at (context_in c.args.ctx.now) c.args.resources.now c.args.arms.now)
-    (all_dropped i c.args.resources.now no_res) (all_dropped i c.args.arms.now none) (c.loop-index.invariant.decides at)
+    (drop_all i c.args.resources.now no_res) (drop_all i c.args.arms.now none) (c.loop-index.invariant.decides at)
