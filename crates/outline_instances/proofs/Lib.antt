@@ -1,0 +1,2 @@
+pub mod ShownLimits
+pub mod TakenInstances

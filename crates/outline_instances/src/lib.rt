@@ -1,0 +1,7 @@
+//! Instances for binders: terms of a proof, within the limits that its certificates show.
+#![tactic(auto)]
+
+mod limits;
+mod supplying;
+
+pub use supplying::{Supplied, instances};
