@@ -8,7 +8,7 @@ use Rattle.core_language.specs.Programs.{Function}
 use Rattle.outline_language.specs.LinearForms.{LinearForm}
 use Rattle.outline_language.specs.Nameless.{Ref, Shape}
 use Rattle.outline_language.specs.Contexts.{Why, WrongForm, Context, and_then, or_why, meanings}
-use Rattle.outline_language.specs.Rules.{Called, called_with, fork_form, forked_with}
+use Rattle.outline_language.specs.Rules.{called_with, fork_form, forked_with}
 use Rattle.function_headers.specs.Headers.{Header, header_read}
 use Rattle.call_rules.specs.Headed.{called_by, fork_form_of, own_end_in, begun_by, forked_by}
 

@@ -1,5 +1,5 @@
 -- Contexts that are kept stay while the context grows, and come back.
-use Rattle.std.proofs.Common.{◌≡◌, ℕ, ◌≤◌, List, [], ◌∷◌, ◌++◌, map, length, take, drop, refl, sym, ap, ◌∙◌, subst, arith}
+use Rattle.std.proofs.Common.{◌≡◌, ℕ, List, [], ◌∷◌, ◌++◌, map, length, drop, refl, sym, ap, ◌∙◌, subst, arith}
 use Rattle.std.proofs.lemmas.List.{map-append, take_all, take-take, take-append-drop, length-take-le}
 use Rattle.outline_contexts.specs.Trails.{Trail, Lengths, AreBelow, IsAfter, mark_of}
 use Rattle.outline_contexts.specs.declared.marks.Mark.{Mark}

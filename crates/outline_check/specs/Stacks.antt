@@ -1,5 +1,5 @@
 -- A context and older ones, which are what its lists were.
-use Rattle.std.specs.Prelude.{ℕ, ◌≤◌, List, [], ◌∷◌, map, take}
+use Rattle.std.specs.Prelude.{◌≤◌, List, [], ◌∷◌, map, take}
 use Rattle.std.specs.List.{AllByRecursion}
 use Rattle.outline_contexts.specs.Trails.{Trail, Lengths, AreBelow, mark_of}
 

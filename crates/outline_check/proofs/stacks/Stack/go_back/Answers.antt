@@ -1,5 +1,4 @@
-use Rattle.std.proofs.Common.{List, sym, ap, ◌∙◌}
-use Rattle.outline_contexts.specs.Trails.{Trail}
+use Rattle.std.proofs.Common.{sym, ap, ◌∙◌}
 use Rattle.outline_check.specs.Stacks.{Stacked}
 use Rattle.outline_check.proofs.Kept.{older_is, nested_left, kept_left}
 use Rattle.outline_check.proofs.stacks.Stack.go_back.Goals as goal

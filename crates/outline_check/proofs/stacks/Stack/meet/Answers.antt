@@ -1,4 +1,4 @@
-use Rattle.std.proofs.Common.{map, sym, ap, ◌∙◌}
+use Rattle.std.proofs.Common.{map, ap, ◌∙◌}
 use Rattle.outline_contexts.specs.Reading.{marked}
 use Rattle.outline_check.specs.Stacks.{Stacked}
 use Rattle.outline_check.proofs.Kept.{nested_grown, kept_grown}
