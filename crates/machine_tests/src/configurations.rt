@@ -1,6 +1,7 @@
 //! Configurations of their parts.
 
 use crate::programs::{SENDS_FIVE, program};
+use crate::rows::is_so;
 use chan_base::{Memory, Name, Names};
 use chan_machine::{Config, Put, Puts, Store, Stores, Task, Tasks, Value};
 use core_programs::Program;
@@ -33,11 +34,10 @@ fn one_print(alloc: Global) -> Result<Puts, Memory> {
 }
 
 fn configuration(alloc: Global, program: &Program) -> Result<Config, Memory> {
-    let tasks = one_task(alloc, program)?;
-    let channels = one_channel(alloc)?;
     let prints = one_print(alloc)?;
-    let config = Config::of(alloc, tasks, channels, prints)?;
-    Ok(config)
+    let channels = one_channel(alloc)?;
+    let tasks = one_task(alloc, program)?;
+    Config::of(alloc, tasks, channels, prints)
 }
 
 /// Whether the channel with the first of the names has a 5 on it.
@@ -52,25 +52,36 @@ fn is_seven(put: &Put) -> bool {
     put.number == 7 && put.name.parts() == 0
 }
 
-#[test]
-fn a_configuration_has_its_parts(rt: HostRuntime) -> Result<(), Fail> {
-    let alloc = rt.alloc();
-    let program = program(alloc, SENDS_FIVE)?;
-    let config = configuration(alloc, &program)?;
+fn has_channel_and_print(alloc: Global, config: &Config) -> Result<bool, Memory> {
     let channels = config.channels(alloc)?;
-    assert_eq!(rt; channels.len(), 1);
-    assert!(rt; holds_five(&config, &channels));
-    assert!(rt; matches!(config.prints().get(0), Some(put) if is_seven(put)));
-    Ok(())
+    Ok(
+        channels.len() == 1
+            && holds_five(config, &channels)
+            && matches!(config.prints().get(0), Some(put) if is_seven(put)),
+    )
+}
+
+fn has_task(alloc: Global, config: &Config) -> Result<bool, Memory> {
+    let tasks = config.tasks(alloc)?;
+    let main = Name::root();
+    Ok(tasks.len() == 1 && matches!(config.frames(&main), Some(frames) if frames.len() == 1))
+}
+
+fn has_parts(alloc: Global, config: &Config) -> Result<bool, Memory> {
+    Ok(has_channel_and_print(alloc, config)? && has_task(alloc, config)?)
+}
+
+fn program_has_parts(alloc: Global, program: &Program) -> Result<bool, Memory> {
+    let config = configuration(alloc, program)?;
+    has_parts(alloc, &config)
+}
+
+fn answer(alloc: Global) -> Result<bool, Memory> {
+    let program = program(alloc, SENDS_FIVE)?;
+    program_has_parts(alloc, &program)
 }
 
 #[test]
-fn a_configuration_has_its_tasks(rt: HostRuntime) -> Result<(), Fail> {
-    let alloc = rt.alloc();
-    let program = program(alloc, SENDS_FIVE)?;
-    let config = configuration(alloc, &program)?;
-    assert_eq!(rt; config.tasks(alloc)?.len(), 1);
-    let main = Name::root();
-    assert!(rt; matches!(config.frames(&main), Some(frames) if frames.len() == 1));
-    Ok(())
+fn a_configuration_has_its_parts(rt: HostRuntime) -> Result<(), Fail> {
+    is_so(&rt, answer(rt.alloc()))
 }

@@ -3,6 +3,7 @@ ghost use Rattle.std.specs.Prelude.{IfOk};
 ghost use Rattle.machine_tasks.specs.Fits.{FramesFit};
 
 use crate::programs::{SENDS_FIVE, is_first, program};
+use crate::rows::is_so;
 use chan_base::{Memory, Number};
 use chan_machine::{Act, Sending, Task, Twins, Value};
 use core_programs::Program;
@@ -71,8 +72,7 @@ fn first_fork(alloc: Global, program: &Program) -> Result<Twins, Memory>
     ensures child { IfOk result (λ twins. FramesFit program.now.nodes twins.child.frames.items) }
 {
     let main = Task::main(alloc, program)?;
-    let twins = fork(alloc, program, main)?;
-    Ok(twins)
+    fork(alloc, program, main)
 }
 
 /// Whether the task looks at the channel of the first fork.
@@ -85,25 +85,42 @@ fn is_at_first(program: &Program, task: &Task) -> bool
     }
 }
 
+/// Whether `main` begins with one frame.
+fn has_one_frame(alloc: Global, program: &Program) -> Result<bool, Memory> {
+    let main = Task::main(alloc, program)?;
+    Ok(main.name().parts() == 0 && main.frames().len() == 1)
+}
+
+fn begins(alloc: Global) -> Result<bool, Memory> {
+    let program = program(alloc, SENDS_FIVE)?;
+    has_one_frame(alloc, &program)
+}
+
 #[test]
 fn main_has_one_frame(rt: HostRuntime) -> Result<(), Fail> {
-    let alloc = rt.alloc();
+    is_so(&rt, begins(rt.alloc()))
+}
+
+fn look_at_first(alloc: Global, program: &Program) -> Result<bool, Memory> {
+    let Twins { parent, child } = first_fork(alloc, program)?;
+    Ok(is_first(child.name()) && is_at_first(program, &child) && is_at_first(program, &parent))
+}
+
+fn fork_shares(alloc: Global) -> Result<bool, Memory> {
     let program = program(alloc, SENDS_FIVE)?;
-    let main = Task::main(alloc, &program)?;
-    assert_eq!(rt; main.name().parts(), 0);
-    assert_eq!(rt; main.frames().len(), 1);
-    Ok(())
+    look_at_first(alloc, &program)
 }
 
 #[test]
 fn both_tasks_look_at_the_channel_of_their_fork(rt: HostRuntime) -> Result<(), Fail> {
-    let alloc = rt.alloc();
-    let program = program(alloc, SENDS_FIVE)?;
-    let Twins { parent, child } = first_fork(alloc, &program)?;
-    assert!(rt; is_first(child.name()));
-    assert!(rt; is_at_first(&program, &child));
-    assert!(rt; is_at_first(&program, &parent));
-    Ok(())
+    is_so(&rt, fork_shares(rt.alloc()))
+}
+
+fn sent(alloc: Global, program: &Program, child: Task) -> Result<Value, Memory>
+    requires { FramesFit program.now.nodes child.frames.items }
+{
+    let Sending { value, .. } = send(alloc, program, child)?;
+    Ok(value)
 }
 
 /// `main` after it received what its child sent.
@@ -111,20 +128,38 @@ fn received(alloc: Global, program: &Program) -> Result<Task, Memory>
     ensures { IfOk result (λ task. FramesFit program.now.nodes task.frames.items) }
 {
     let Twins { parent, child } = first_fork(alloc, program)?;
-    let Sending { value, .. } = send(alloc, program, child)?;
-    let parent = receive(alloc, program, parent, value)?;
-    Ok(parent)
+    let value = sent(alloc, program, child)?;
+    receive(alloc, program, parent, value)
+}
+
+/// `main` after it printed what it received.
+fn has_printed(alloc: Global, program: &Program) -> Result<Task, Memory>
+    ensures { IfOk result (λ task. FramesFit program.now.nodes task.frames.items) }
+{
+    let main = received(alloc, program)?;
+    print(alloc, program, main)
+}
+
+fn prints_five(alloc: Global, program: &Program) -> Result<bool, Memory> {
+    let main = received(alloc, program)?;
+    Ok(matches!(main.act(program), Act::Print(5)))
+}
+
+fn ends_then(alloc: Global, program: &Program) -> Result<bool, Memory> {
+    let main = has_printed(alloc, program)?;
+    Ok(matches!(main.act(program), Act::End))
+}
+
+fn prints_and_ends(alloc: Global, program: &Program) -> Result<bool, Memory> {
+    Ok(prints_five(alloc, program)? && ends_then(alloc, program)?)
+}
+
+fn receives(alloc: Global) -> Result<bool, Memory> {
+    let program = program(alloc, SENDS_FIVE)?;
+    prints_and_ends(alloc, &program)
 }
 
 #[test]
 fn main_prints_what_its_child_sent(rt: HostRuntime) -> Result<(), Fail> {
-    let alloc = rt.alloc();
-    let program = program(alloc, SENDS_FIVE)?;
-    let main = received(alloc, &program)?;
-    let act = main.act(&program);
-    assert!(rt; matches!(&act, Act::Print(5)));
-    let main = print(alloc, &program, main)?;
-    let act = main.act(&program);
-    assert!(rt; matches!(&act, Act::End));
-    Ok(())
+    is_so(&rt, receives(rt.alloc()))
 }

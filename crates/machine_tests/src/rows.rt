@@ -1,0 +1,25 @@
+//! What is told of a case, against what has to be.
+use chan_base::Memory;
+use std::process::Abort;
+use std::test::Fail;
+
+/// The answer of a case is what its row says.
+pub(crate) fn is_told(
+    rt: &(impl Abort + AllocGlobal),
+    told: Result<&'static [u8], Memory>,
+    want: &[u8],
+) -> Result<(), Fail> {
+    let told = told?;
+    assert_eq!(rt; told, want);
+    Ok(())
+}
+
+/// The answer of a case is yes.
+pub(crate) fn is_so(
+    rt: &(impl Abort + AllocGlobal),
+    told: Result<bool, Memory>,
+) -> Result<(), Fail> {
+    let told = told?;
+    assert!(rt; told);
+    Ok(())
+}
