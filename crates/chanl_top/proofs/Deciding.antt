@@ -6,9 +6,9 @@ use Rattle.core_programs.specs.declared.nodes.Parts.{Parts}
 use Rattle.core_programs.specs.Bodies.{program_of}
 use Rattle.core_programs.specs.Form.{HasForm}
 use Rattle.core_trees.specs.Core.{is_core}
-use Rattle.session_layer.specs.Lowering.{IsLowered}
-use Rattle.session_layer.specs.Pure.{program_in}
-use Rattle.session_layer.proofs.Said.{says_the_tree}
+use Rattle.core_numbering.specs.Numbering.{IsNumbering}
+use Rattle.core_numbering.specs.Pure.{program_in}
+use Rattle.core_numbering.proofs.Said.{says_the_tree}
 use Rattle.core_language.specs.Rounds.{Entry, run_of}
 use Rattle.core_language.specs.Endings.{Ending, ending_of}
 use Rattle.core_language.specs.Endings as ending
@@ -98,7 +98,7 @@ run_verdict program rounds entries e s output are ends is writes =
     λ i. record { status = settled i; output = written i }
 
 -- the run of the parts to which a tree was lowered
-pub tree_run : (tree : Surface) (parts : Parts) (rounds : ℕ) (v : Verdict) → is_core tree ≡ true → IsLowered tree parts → HasForm parts → v ≡ replayed (program_of parts) rounds
+pub tree_run : (tree : Surface) (parts : Parts) (rounds : ℕ) (v : Verdict) → is_core tree ≡ true → IsNumbering tree parts → HasForm parts → v ≡ replayed (program_of parts) rounds
     → IsTreeVerdict tree rounds v
 tree_run tree parts rounds v core lowered form is = inl (core, (parts, lowered, inl (form, is ∙ ap (λ p. replayed p rounds) (says_the_tree tree parts lowered))))
 

@@ -21,10 +21,10 @@ use Rattle.chanl_lines.specs.Lines.{ill_line}
 use Rattle.form_faults.specs.declared.faults.Ill.{Ill}
 use Rattle.core_programs.specs.declared.nodes.Parts.{Parts}
 use Rattle.core_programs.specs.Form.{HasForm, IsFault, Passes}
-use Rattle.session_layer.specs.Lowering.{IsLowered}
+use Rattle.core_numbering.specs.Numbering.{IsNumbering}
 use Rattle.form_laws.proofs.OneFault.{one_outcome}
-use Rattle.session_layer.specs.Pure.{program_in}
-use Rattle.session_layer.proofs.Forms.{is_one_form}
+use Rattle.core_numbering.specs.Pure.{program_in}
+use Rattle.core_numbering.proofs.Forms.{is_one_form}
 use Rattle.chanl_top.specs.declared.verdicts.Verdict.{Verdict}
 use Rattle.chanl_top.specs.Verdict.{replayed, lexing_line, grammar_line, line_refusal, IsUnread, IsFmtVerdict, IsTreeVerdict, IsReplayVerdict, IsTextVerdict, IsCommandVerdict, IsVerdict}
 use Rattle.spelling_laws.specs.Laws.{Reads}
@@ -67,14 +67,14 @@ one_fmt text v u (inl (s, reads, is)) (inr (line, unread, is_too)) = absurd (rea
 one_fmt text v u (inr (line, unread, is)) (inl (t, reads, is_too)) = absurd (read_or_refused text line t reads unread)
 one_fmt text v u (inr (line, unread, is)) (inr (other, unread_too, is_too)) = is ∙ ap line_refusal (one_line text line other unread unread_too) ∙ sym is_too
 
-one_outcome_of : (tree : Surface) (p q : Parts) (r s : Option Ill) → IsLowered tree p → IsLowered tree q → Passes p r → Passes q s → r ≡ s
+one_outcome_of : (tree : Surface) (p q : Parts) (r s : Option Ill) → IsNumbering tree p → IsNumbering tree q → Passes p r → Passes q s → r ≡ s
 one_outcome_of tree p q r s one two found found_too = one_outcome q r s (is_one_form tree p q one two r found) found_too
 
 -- a run of the tree's program, or the line of the fault of its parts
 abbrev Runs : Surface → ℕ → Parts → Verdict → Type 0
 Runs tree rounds parts v = (HasForm parts × (v ≡ replayed (program_in tree) rounds)) ⊎ ((ill : Ill) × IsFault parts ill × (v ≡ line_refusal (ill_line ill)))
 
-one_run : (tree : Surface) (rounds : ℕ) (p q : Parts) (v u : Verdict) → IsLowered tree p → IsLowered tree q → Runs tree rounds p v → Runs tree rounds q u → v ≡ u
+one_run : (tree : Surface) (rounds : ℕ) (p q : Parts) (v u : Verdict) → IsNumbering tree p → IsNumbering tree q → Runs tree rounds p v → Runs tree rounds q u → v ≡ u
 one_run tree rounds p q v u one two (inl (form, is)) (inl (form_too, is_too)) = is ∙ sym is_too
 one_run tree rounds p q v u one two (inl (form, is)) (inr (ill, fault, is_too)) = absurd (none-some ill (one_outcome_of tree p q None (Some ill) one two form fault))
 one_run tree rounds p q v u one two (inr (ill, fault, is)) (inl (form, is_too)) = absurd (none-some ill (sym (one_outcome_of tree p q (Some ill) None one two fault form)))

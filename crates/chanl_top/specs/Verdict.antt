@@ -13,8 +13,8 @@ use Rattle.form_faults.specs.declared.faults.Ill.{Ill}
 use Rattle.core_programs.specs.declared.nodes.Parts.{Parts}
 use Rattle.core_programs.specs.Form.{HasForm, IsFault}
 use Rattle.core_trees.specs.Core.{is_core}
-use Rattle.session_layer.specs.Lowering.{IsLowered}
-use Rattle.session_layer.specs.Pure.{program_in}
+use Rattle.core_numbering.specs.Numbering.{IsNumbering}
+use Rattle.core_numbering.specs.Pure.{program_in}
 use Rattle.spelling_laws.specs.Laws.{Reads}
 use Rattle.text_tokens.specs.Text.{Token, HasTokens, Fault, bad_byte, bad_token, number_too_large, IsFirstFault}
 use Rattle.surface_spelling.specs.Spelling.{spelling}
@@ -95,7 +95,7 @@ IsFmtVerdict text verdict =
 -- the run of the program that the tree says, or the first fault of its form, however its nodes are numbered
 abbrev pub IsRunVerdict : Surface → ℕ → Verdict → Type 0
 IsRunVerdict tree rounds verdict =
-    (parts : Parts) × IsLowered tree parts
+    (parts : Parts) × IsNumbering tree parts
     × ((HasForm parts × (verdict ≡ replayed (program_in tree) rounds)) ⊎ ((ill : Ill) × IsFault parts ill × (verdict ≡ line_refusal (ill_line ill))))
 
 -- trees with sessions can't be run yet

@@ -14,8 +14,9 @@ use chan_printer::print;
 use chan_syntax::Surface;
 use chanl_lines::{ill_line, run_text};
 use chanl_words::Command;
+use core_numbering::number;
 use core_programs::{BuildFault, Program};
-use session_layer::{is_core, lower};
+use core_trees::is_core;
 use std::alloc::Global;
 
 /// A status and an output text.
@@ -83,7 +84,7 @@ fn run_tree(alloc: Global, tree: &Surface, rounds: u64) -> Result<Verdict, Memor
         let line = Bytes::from_slice(alloc, b"refused not yet\n")?;
         return Ok(refuse(line));
     }
-    match lower(alloc, tree) {
+    match number(alloc, tree) {
         Ok(program) => {
             let verdict = run(alloc, &program, rounds)?;
             Ok(verdict)

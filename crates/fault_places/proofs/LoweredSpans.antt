@@ -13,8 +13,8 @@ use Rattle.core_programs.specs.declared.nodes.Arm.{Arm}
 use Rattle.core_programs.specs.declared.nodes.Func.{Func}
 use Rattle.core_programs.specs.Trees.{Grown, all_grown, grown, grown_at, tree_within}
 use Rattle.statement_nodes.specs.Nodes.{IsNodeOf}
-use Rattle.session_layer.specs.Lowering.{At, StmtsAt, RowAt, EndsAt, ArmsAt, BoxedAt, IsBodyAt, AreOf}
-use Rattle.session_layer.proofs.Grown.{names_next}
+use Rattle.core_numbering.specs.Numbering.{At, StmtsAt, RowAt, EndsAt, ArmsAt, BoxedAt, IsBodyAt, AreOf}
+use Rattle.core_numbering.proofs.Grown.{names_next}
 use Rattle.fault_places.specs.Spans.{Every, InPat}
 use Rattle.fault_places.specs.Programs.{InProto, InArmOf, InNode, InTree, InTrees, InFunc}
 use Rattle.fault_places.specs.SurfaceTrees.{InStmt, InLast, InRow, InArms, InBoxed, InBlock, InBody, InDecl}

@@ -73,7 +73,7 @@ two_blocks_placed : Placed two_blocks (Both InBlock InBlock)
 unfolding two_blocks
 two_blocks_placed = placed_two one_block_placed (placed_behind w.Else one_block_placed)
 
-in_if : (P : Span → Type 0) (a b : Term) (x y : Block) (span : Span) → InTerm P a → InTerm P b → InBlock P x → InBlock P y → P span → InLast P (l.If a b x y span)
+pub in_if : (P : Span → Type 0) (a b : Term) (x y : Block) (span : Span) → InTerm P a → InTerm P b → InBlock P x → InBlock P y → P span → InLast P (l.If a b x y span)
 unfolding hidden hidden-the_row-Stmt-0 hidden-the_row-Last-1
 in_if P a b x y span p q this other at = (p, q, (in_rows P x.stmts this.0, this.1), (in_rows P y.stmts other.0, other.1), at)
 
@@ -88,7 +88,7 @@ unfolding hidden hidden-the_row-Stmt-0 hidden-the_row-Last-1
 arm_rows P [] p = tt
 arm_rows P (x ∷ xs) p = ((p.0.0, (in_rows P x.block.stmts p.0.1.0, p.0.1.1)), arm_rows P xs p.1)
 
-in_match : (P : Span → Type 0) (n : Ident) (nt : Span) (xs : List SurfaceArm) (span : Span) → P nt → Every (InArm P) xs → P span → InLast P (l.Match n nt xs span)
+pub in_match : (P : Span → Type 0) (n : Ident) (nt : Span) (xs : List SurfaceArm) (span : Span) → P nt → Every (InArm P) xs → P span → InLast P (l.Match n nt xs span)
 unfolding hidden hidden-the_row-SurfaceArm-2
 in_match P n nt xs span name arms at = (name, arm_rows P xs arms, at)
 

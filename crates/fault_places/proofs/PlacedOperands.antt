@@ -21,7 +21,7 @@ use Rattle.fault_places.proofs.PlacedTerms.{InNames, InDigits, name_placed, numb
 
 -- ---- values
 
-in_pair : (P : Span → Type 0) (a b : Supply) → InSupply P a → InSupply P b → InSupply P (v.Pair a b)
+pub in_pair : (P : Span → Type 0) (a b : Supply) → InSupply P a → InSupply P b → InSupply P (v.Pair a b)
 unfolding hidden hidden-the_row-Supply-0
 in_pair P a b p q = (p, q)
 

@@ -7,7 +7,7 @@ use Rattle.form_faults.specs.declared.faults.Ill.{Ill}
 use Rattle.core_programs.specs.declared.nodes.Parts.{Parts}
 use Rattle.core_programs.specs.declared.faults.BuildFault.TheVariants as fault
 use Rattle.core_programs.specs.Form.{IsFault}
-use Rattle.session_layer.specs.Lowering.{IsFaultOf}
+use Rattle.core_numbering.specs.Numbering.{IsNumberingFault}
 use Rattle.text_tokens.specs.Text.{Token, HasTokens, IsWithin, span_behind}
 use Rattle.surface_grammar.specs.Language.{Derives}
 use Rattle.fault_places.specs.Programs.{InParts}
@@ -37,5 +37,5 @@ SpansStandInText = (text : List ℕ) (tokens : List Token) (tree : Surface) → 
 -- The fault of form of a text stands at some bytes of the text, unless there is no `main`.
 abbrev pub StandsInText : Type 0
 StandsInText =
-    (text : List ℕ) (tokens : List Token) (tree : Surface) (ill : Ill) → HasTokens text tokens → Derives tree tokens → IsFaultOf tree (fault.Ill ill)
+    (text : List ℕ) (tokens : List Token) (tree : Surface) (ill : Ill) → HasTokens text tokens → Derives tree tokens → IsNumberingFault tree (fault.Ill ill)
     → IsAt text ill.span ⊎ TellsNoMain ill

@@ -2,8 +2,9 @@
 use chan_base::{Memory, Name};
 use chan_lexer::tokens;
 use chan_parser::parse;
+use core_numbering::number;
 use core_programs::Program;
-use session_layer::{is_core, lower};
+use core_trees::is_core;
 use std::alloc::Global;
 
 /// A task that sends 5 to the task that forked it, which prints it.
@@ -25,7 +26,7 @@ pub(crate) fn program(alloc: Global, text: &[u8]) -> Result<Program, Memory> {
     if !is_core(&surface) {
         return Err(Memory);
     }
-    match lower(alloc, &surface) {
+    match number(alloc, &surface) {
         Ok(program) => Ok(program),
         Err(_) => Err(Memory),
     }

@@ -3,4 +3,4 @@
 
 mod statements;
 
-pub use statements::{called, stmt_node};
+pub use statements::stmt_node;

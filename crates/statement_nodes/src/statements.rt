@@ -1,12 +1,13 @@
 //! One node for each statement.
 ghost use Rattle.std.specs.Prelude.{◌≡◌, true, IfOk};
 ghost use Rattle.core_trees.specs.Core.{is_core_stmt};
-ghost use Rattle.statement_nodes.specs.Forms as form;
+ghost use Rattle.statement_copies.specs.Forms as form;
 ghost use Rattle.statement_nodes.specs.Nodes.{IsNodeOf};
 
 use chan_base::Memory;
-use chan_syntax::{Ident, Pat, Path, Proof, Stmt, Supplies, copy_path, copy_supplies};
+use chan_syntax::Stmt;
 use core_programs::Node;
+use statement_copies::{access, called, pats};
 use std::alloc::Global;
 
 /// The node of a Let.
@@ -111,21 +112,6 @@ fn rem_node(alloc: Global, stmt: &Stmt, next: u32) -> Result<Node, Memory>
     })
 }
 
-/// The name of a function, the values for it, and the proof.
-pub fn called(
-    alloc: Global,
-    func: &Ident,
-    values: &Supplies,
-    proof: &Proof,
-) -> Result<(Ident, Supplies, Proof), Memory>
-    ensures { IfOk result (λ p. (p.0 ≡ func.now) × (p.1 ≡ values.now) × (p.2 ≡ proof.now)) }
-{
-    let func = func.copy()?;
-    let values = copy_supplies(alloc, values)?;
-    let proof = proof.copy(alloc)?;
-    Ok((func, values, proof))
-}
-
 /// The node of a Call.
 fn call_node(alloc: Global, stmt: &Stmt, next: u32) -> Result<Node, Memory>
     requires { form.is_call stmt.now ≡ true }
@@ -189,21 +175,6 @@ fn fork_node(alloc: Global, stmt: &Stmt, next: u32) -> Result<Node, Memory>
     })
 }
 
-/// A channel, the way through its protocol, and the proof.
-fn access(
-    alloc: Global,
-    channel: &Ident,
-    path: &Path,
-    proof: &Proof,
-) -> Result<(Ident, Path, Proof), Memory>
-    ensures { IfOk result (λ p. (p.0 ≡ channel.now) × (p.1 ≡ path.now) × (p.2 ≡ proof.now)) }
-{
-    let channel = channel.copy()?;
-    let path = copy_path(alloc, path)?;
-    let proof = proof.copy(alloc)?;
-    Ok((channel, path, proof))
-}
-
 /// The node of a Send1.
 fn send1_node(alloc: Global, stmt: &Stmt, next: u32) -> Result<Node, Memory>
     requires { form.is_send stmt.now ≡ true }
@@ -264,14 +235,6 @@ fn recv1_node(alloc: Global, stmt: &Stmt, next: u32) -> Result<Node, Memory>
         next,
         span: *span,
     })
-}
-
-fn pats(alloc: Global, first: &Pat, second: &Pat) -> Result<(Pat, Pat), Memory>
-    ensures { IfOk result (λ p. (p.0 ≡ first.now) × (p.1 ≡ second.now)) }
-{
-    let first = first.copy(alloc)?;
-    let second = second.copy(alloc)?;
-    Ok((first, second))
 }
 
 /// The node of a Split.

@@ -1,0 +1,2 @@
+pub mod Agains
+pub mod Laws

@@ -1,4 +1,0 @@
-pub mod Lowering
-pub mod Rooted
-pub mod Drafts
-pub mod Pure
