@@ -1,19 +1,11 @@
-//! Rows of words and inputs, with the outputs and statuses that the whole program has to give.
+//! Rows of words, bytes and streams that need sources and sinks in memory. The others are those of `chanl_rows`.
 #![tactic(auto)]
 
 #[cfg(test)]
-mod endings;
+mod bytes;
 #[cfg(test)]
-mod formats;
-#[cfg(test)]
-mod replays;
-#[cfg(test)]
-mod runs;
-#[cfg(test)]
-mod spellings;
+mod rows;
 #[cfg(test)]
 mod streams;
 #[cfg(test)]
 mod words;
-#[cfg(test)]
-mod worked;

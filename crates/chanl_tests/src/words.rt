@@ -1,69 +1,13 @@
-//! Words, the length of the input, and faults of the streams.
-use crate::runs::{REPLAY, Row, programs_end};
-use row_answers::{NEVER, answer, answer_with_faults};
+//! Words that are no command, and faults of the streams.
+use crate::rows::is_answered;
+use row_answers::{NEVER, answer_with_faults};
+use std::process::Abort;
 use std::test::Fail;
 
 const SEVEN: &[u8] = b"fn main() -> unit { print 7; ret () }\n";
 
-/// Rounds that are enough.
-const ENOUGH: [Row; 4] = [
-    // As many as the run takes.
-    (
-        &["replay", "--rounds", "2"],
-        "fn main() -> unit { print 7; ret () }
-",
-        "7 / finished",
-    ),
-    // The same, joined.
-    (
-        &["replay", "--rounds=2"],
-        "fn main() -> unit { print 7; ret () }
-",
-        "7 / finished",
-    ),
-    // The most rounds.
-    (
-        &["replay", "--rounds", "1000000000"],
-        "fn main() -> unit { print 7; ret () }
-",
-        "7 / finished",
-    ),
-    // Leading zeros.
-    (
-        &["replay", "--rounds", "0000000002"],
-        "fn main() -> unit { print 7; ret () }
-",
-        "7 / finished",
-    ),
-];
-
-/// Rounds that are too few.
-const TOO_FEW: [Row; 3] = [
-    // One round too few.
-    (
-        &["replay", "--rounds", "1"],
-        "fn main() -> unit { print 7; ret () }
-",
-        "7 / stopped rounds",
-    ),
-    // A function that calls itself.
-    (
-        &["replay", "--rounds", "3"],
-        "fn main() -> unit { main() }
-",
-        "stopped rounds",
-    ),
-    // The same, joined.
-    (
-        &["replay", "--rounds=3"],
-        "fn main() -> unit { main() }
-",
-        "stopped rounds",
-    ),
-];
-
 /// Words that are no command.
-const USAGE: [&[&str]; 40] = [
+static USAGE: [&[&str]; 40] = [
     &[],
     &["run"],
     &["check"],
@@ -106,48 +50,41 @@ const USAGE: [&[&str]; 40] = [
     &["fmt", "fmt"],
 ];
 
-#[test]
-fn rounds_are_counted(rt: HostRuntime) -> Result<(), Fail> {
-    programs_end(&rt, &ENOUGH, 0)?;
-    programs_end(&rt, &TOO_FEW, 4)
+const USAGE_LINE: &[u8] =
+    b"usage: chanl check | run | history | fmt | core | replay | follow | make N\n";
+
+/// Nothing is read, so that no call of the source fails.
+fn is_usage(rt: &(impl Abort + AllocGlobal), words: &[&str]) -> Result<(), Fail> {
+    let told = answer_with_faults(rt.alloc(), words, SEVEN, 1, NEVER);
+    is_answered(rt, told, 2, USAGE_LINE)
 }
 
 #[test]
 fn other_words_are_usage_errors(rt: HostRuntime) -> Result<(), Fail> {
-    for words in USAGE {
-        let (status, written) = answer_with_faults(rt.alloc(), words, SEVEN, 1, NEVER)?;
-        assert_eq!(rt; status, 2);
-        assert_eq!(rt;
-            written.as_slice(),
-            b"usage: chanl check | run | history | fmt | core | replay | follow | make N\n".as_slice()
-        );
+    for words in &USAGE {
+        is_usage(&rt, words)?;
     }
     Ok(())
 }
 
-#[test]
-fn texts_have_a_greatest_length(rt: HostRuntime) -> Result<(), Fail> {
-    let mut text = vec![in rt.alloc(); b' '; 1048577]?;
-    let (status, written) = answer(rt.alloc(), REPLAY, text.as_slice())?;
-    assert_eq!(rt; status, 1);
-    assert_eq!(rt; written.as_slice(), b"refused too long\n".as_slice());
-    text.truncate(1048576);
-    let (status, written) = answer(rt.alloc(), REPLAY, text.as_slice())?;
-    assert_eq!(rt; status, 1);
-    assert_eq!(rt; written.as_slice(), b"refused 1:1 no main\n".as_slice());
-    Ok(())
+/// The call of the source and that of the sink that fail, the status, and what is written.
+type Faulty = (u64, u64, u8, &'static [u8]);
+
+static FAULTY: [Faulty; 3] = [
+    (2, NEVER, 5, b"read fault\n"),
+    (NEVER, 2, 6, b"7\nf"),
+    (2, 1, 6, b""),
+];
+
+fn is_faulty(rt: &(impl Abort + AllocGlobal), case: &Faulty) -> Result<(), Fail> {
+    let told = answer_with_faults(rt.alloc(), &["replay"], SEVEN, case.0, case.1);
+    is_answered(rt, told, case.2, case.3)
 }
 
 #[test]
 fn faults_of_the_streams_are_told(rt: HostRuntime) -> Result<(), Fail> {
-    let (status, written) = answer_with_faults(rt.alloc(), REPLAY, SEVEN, 2, NEVER)?;
-    assert_eq!(rt; status, 5);
-    assert_eq!(rt; written.as_slice(), b"read fault\n".as_slice());
-    let (status, written) = answer_with_faults(rt.alloc(), REPLAY, SEVEN, NEVER, 2)?;
-    assert_eq!(rt; status, 6);
-    assert_eq!(rt; written.as_slice(), b"7\nf".as_slice());
-    let (status, written) = answer_with_faults(rt.alloc(), REPLAY, SEVEN, 2, 1)?;
-    assert_eq!(rt; status, 6);
-    assert_eq!(rt; written.as_slice(), b"".as_slice());
+    for case in &FAULTY {
+        is_faulty(&rt, case)?;
+    }
     Ok(())
 }

@@ -1,7 +1,7 @@
 //! Parts of programs, whose nodes are numbered as no text numbers them.
 ghost use Rattle.std.specs.Prelude.{◌≡◌, ◌∷◌, [], map, IfOk};
 ghost use Rattle.core_programs.specs.Formed.{nexts, IsNumbered};
-ghost use Rattle.program_tests.specs.Examples as spec;
+ghost use Rattle.part_tests.specs.Examples as spec;
 
 use crate::trees::{at, no_bound, no_proof, number, unit, variable};
 use chan_base::Memory;
@@ -30,7 +30,7 @@ fn quotient(alloc: Global, divisor: u64, next: u32) -> Result<Node, Memory>
     Ok(Node::Div {
         name: Ident::from_slice(alloc, b"b")?,
         name_span: at(0),
-        term: variable(alloc, b"a")?,
+        term: variable(alloc, b'a')?,
         divisor,
         divisor_span: at(7),
         next,
@@ -38,11 +38,11 @@ fn quotient(alloc: Global, divisor: u64, next: u32) -> Result<Node, Memory>
     })
 }
 
-fn print(alloc: Global, name: &[u8], next: u32) -> Result<Node, Memory>
+fn print(alloc: Global, letter: u8, next: u32) -> Result<Node, Memory>
     ensures { IfOk result (λ node. nexts node ≡ next ∷ []) }
 {
     Ok(Node::Print {
-        term: variable(alloc, name)?,
+        term: variable(alloc, letter)?,
         next,
         span: at(0),
     })
@@ -74,7 +74,7 @@ fn if_nothing(alloc: Global, yes: u32, no: u32) -> Result<Node, Memory>
 fn if_low(alloc: Global, yes: u32, no: u32) -> Result<Node, Memory>
     ensures { IfOk result (λ node. nexts node ≡ yes ∷ no ∷ []) }
 {
-    let left = variable(alloc, b"a")?;
+    let left = variable(alloc, b'a')?;
     let right = number(alloc, 0)?;
     Ok(choose(left, right, yes, no))
 }
@@ -90,11 +90,11 @@ fn done(alloc: Global) -> Node
     }
 }
 
-fn ret(alloc: Global, name: &[u8]) -> Result<Node, Memory>
+fn ret(alloc: Global, letter: u8) -> Result<Node, Memory>
     ensures { IfOk result (λ node. nexts node ≡ []) }
 {
     Ok(Node::Ret {
-        value: Supply::Sum(variable(alloc, name)?),
+        value: Supply::Sum(variable(alloc, letter)?),
         proof: no_proof(alloc),
         span: at(0),
     })
@@ -138,7 +138,7 @@ fn chain_nodes(alloc: Global, divisor: u64) -> Result<Nodes, Memory>
     let mut nodes = Nodes::new(alloc);
     nodes.push(five(alloc, 1)?)?;
     nodes.push(quotient(alloc, divisor, 2)?)?;
-    nodes.push(print(alloc, b"b", 3)?)?;
+    nodes.push(print(alloc, b'b', 3)?)?;
     nodes.push(done(alloc))?;
     Ok(nodes)
 }
@@ -173,11 +173,11 @@ fn mixed_nodes(alloc: Global) -> Result<Nodes, Memory>
 {
     let mut nodes = Nodes::new(alloc);
     nodes.push(if_nothing(alloc, 5, 2)?)?;
-    nodes.push(print(alloc, b"a", 6)?)?;
-    nodes.push(ret(alloc, b"y")?)?;
+    nodes.push(print(alloc, b'a', 6)?)?;
+    nodes.push(ret(alloc, b'y')?)?;
     nodes.push(five(alloc, 7)?)?;
     nodes.push(done(alloc))?;
-    nodes.push(ret(alloc, b"x")?)?;
+    nodes.push(ret(alloc, b'x')?)?;
     nodes.push(done(alloc))?;
     nodes.push(if_low(alloc, 1, 4)?)?;
     Ok(nodes)

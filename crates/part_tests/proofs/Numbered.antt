@@ -7,8 +7,8 @@ use Rattle.core_programs.specs.declared.nodes.Node.{Node}
 use Rattle.core_programs.specs.declared.nodes.Func.{Func}
 use Rattle.core_programs.specs.declared.nodes.Parts.{Parts}
 use Rattle.core_programs.specs.Formed.{nexts, Leads, LeadBelow, Reaches, IsReachedOnce, IsNumbered}
-use Rattle.program_tests.specs.Shapes.{Walk, begun, through, walks, climbs, ends, are_apart, reach, are_below, are_within, is_numbered}
-use Rattle.program_tests.proofs.Walked.{both, all_at, In, in_through, out_through, Walks, in_walks, out_walks, one_walk, reached}
+use Rattle.part_tests.specs.Shapes.{Walk, begun, through, walks, climbs, ends, are_apart, reach, are_below, are_within, is_numbered}
+use Rattle.part_tests.proofs.Walked.{both, all_at, In, in_through, out_through, Walks, in_walks, out_walks, one_walk, reached}
 
 -- ---- places of lists
 

@@ -1,7 +1,7 @@
 use Rattle.std.proofs.Common.{[], ◌∷◌, refl}
-use Rattle.program_tests.specs.Examples as spec
-use Rattle.program_tests.proofs.Numbered.{numbered}
-use Rattle.program_tests.proofs.parts.mixed.Goals as goal
+use Rattle.part_tests.specs.Examples as spec
+use Rattle.part_tests.proofs.Numbered.{numbered}
+use Rattle.part_tests.proofs.parts.mixed.Goals as goal
 
 pub returns : goal.returns
 returns c = numbered _ spec.mixed (0 ∷ 3 ∷ []) c.in_ok-nodes.ensures c.in_ok-funcs.ensures refl

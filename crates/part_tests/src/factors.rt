@@ -1,14 +1,16 @@
 //! Factors below zero.
-use crate::trees::{NONE, Times, no_bound, printed, sending, term};
-use chan_base::{Bytes, Memory};
+use crate::printing::{printed, sending};
+use crate::rows::is_told;
+use crate::trees::{NONE, Times, no_bound, term};
+use chan_base::Memory;
 use chan_syntax::{Ident, Res, Shape};
 use std::alloc::Global;
 use std::test::Fail;
 
 /// The parts of a term, and a protocol that sends it.
-type Row<'a> = (&'a [Times], &'a [u8]);
+type Row = (&'static [Times], &'static [u8]);
 
-const ROWS: [Row<'_>; 9] = [
+static ROWS: [Row; 9] = [
     (&[], b"proto P() = send int(0);\n"),
     // The least factor, first.
     (
@@ -45,7 +47,7 @@ const ROWS: [Row<'_>; 9] = [
     ),
 ];
 
-fn sent(alloc: Global, parts: &[Times]) -> Result<Bytes, Memory> {
+fn sent(alloc: Global, parts: &[Times]) -> Result<Vec<u8>, Memory> {
     let name = Ident::from_slice(alloc, b"P")?;
     let shape = Shape::Int(term(alloc, parts)?);
     let bound = no_bound(alloc);
@@ -54,8 +56,8 @@ fn sent(alloc: Global, parts: &[Times]) -> Result<Bytes, Memory> {
 
 #[test]
 fn a_factor_below_zero_has_one_minus(rt: HostRuntime) -> Result<(), Fail> {
-    for (parts, wanted) in ROWS {
-        assert_eq!(rt; sent(rt.alloc(), parts)?.as_slice(), wanted);
+    for (parts, wanted) in &ROWS {
+        is_told(&rt, sent(rt.alloc(), parts), wanted)?;
     }
     Ok(())
 }

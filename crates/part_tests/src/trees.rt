@@ -1,8 +1,8 @@
 //! Small trees.
 use chan_base::{Memory, Span, Spans};
 use chan_syntax::{
-    Bound, Certs, Equation, Ident, Idents, Limits, Part, Proof, Proto, Res, Shape, Term, TermParts,
-    Terms,
+    Bound, Certs, Equation, Ident, Idents, Limits, Part, Proof, Proto, Ref, Res, Shape, Term,
+    TermParts, Terms,
 };
 use std::alloc::Global;
 
@@ -16,24 +16,41 @@ pub(crate) fn at(start: u32) -> Span {
     }
 }
 
-fn one_part(alloc: Global, factor: i64, name: Option<Ident>) -> Result<Term, Memory> {
-    let mut parts = TermParts::new(alloc);
-    parts.push(Part {
-        negative: false,
+/// Whether a part is taken away, its factor, and its name of one letter or `NONE`.
+pub(crate) type Times = (bool, i64, u8);
+
+/// No name.
+pub(crate) const NONE: u8 = 0;
+
+fn part(alloc: Global, times: &Times) -> Result<Part, Memory> {
+    let (negative, factor, letter) = *times;
+    let name = if letter == NONE {
+        None
+    } else {
+        Some(Ident::from_slice(alloc, &[letter])?)
+    };
+    Ok(Part {
+        negative,
         factor,
         name,
         name_span: None,
-    })?;
+    })
+}
+
+pub(crate) fn term(alloc: Global, times: &[Times]) -> Result<Term, Memory> {
+    let mut parts = TermParts::new(alloc);
+    for one in times {
+        parts.push(part(alloc, one)?)?;
+    }
     Ok(Term { parts, span: at(0) })
 }
 
 pub(crate) fn number(alloc: Global, number: i64) -> Result<Term, Memory> {
-    one_part(alloc, number, None)
+    term(alloc, &[(false, number, NONE)])
 }
 
-pub(crate) fn variable(alloc: Global, name: &[u8]) -> Result<Term, Memory> {
-    let name = Ident::from_slice(alloc, name)?;
-    one_part(alloc, 1, Some(name))
+pub(crate) fn variable(alloc: Global, letter: u8) -> Result<Term, Memory> {
+    term(alloc, &[(false, 1, letter)])
 }
 
 pub(crate) fn no_proof(alloc: Global) -> Proof {
@@ -57,6 +74,17 @@ pub(crate) fn unit(bound: Bound) -> Res {
         bound,
         shape: Shape::Unit,
     }
+}
+
+/// An end of a protocol without parameters.
+pub(crate) fn end(alloc: Global, name: &[u8]) -> Result<Ref, Memory> {
+    Ok(Ref {
+        dual: false,
+        name: Ident::from_slice(alloc, name)?,
+        name_span: at(0),
+        args: Terms::new(alloc),
+        span: at(0),
+    })
 }
 
 /// A protocol without parameters.

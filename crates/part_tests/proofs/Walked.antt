@@ -3,7 +3,7 @@ use Rattle.std.proofs.Common.{◌≡◌, ℕ, zero, suc, ◌+◌, ◌<◌, Bool,
 use Rattle.std.specs.List.{list_all, list_any}
 use Rattle.std.proofs.lemmas.Bool.{eqb-true, eq-eqb, cases_lt}
 use Rattle.std.proofs.Math.Bool.{false≢true}
-use Rattle.program_tests.specs.Shapes.{Walk, begun, through, through_at, walks, all_end, ends, are_apart, reach}
+use Rattle.part_tests.specs.Shapes.{Walk, begun, through, through_at, walks, all_end, ends, are_apart, reach}
 
 -- ---- tests that compute
 
