@@ -27,7 +27,7 @@ use Rattle.lowered_forms.specs.Laws.{DesugarsToCore}
 
 -- ---- tests of lists
 
-both : (a b : Bool) → a ≡ true → b ≡ true → (a && b) ≡ true
+pub both : (a b : Bool) → a ≡ true → b ≡ true → (a && b) ≡ true
 both true b this other = other
 both false b this other = this
 
@@ -56,11 +56,11 @@ is_send (Strays span) = false
 abbrev Clear : List Event → Type 0
 Clear es = list_all is_send es ≡ true
 
-no_first : (a b : Option Ill) → or_else a b ≡ None → a ≡ None
+pub no_first : (a b : Option Ill) → or_else a b ≡ None → a ≡ None
 no_first None b is = refl
 no_first (Some f) b is = is
 
-no_later : (a b : Option Ill) → or_else a b ≡ None → b ≡ None
+pub no_later : (a b : Option Ill) → or_else a b ≡ None → b ≡ None
 no_later None b is = is
 no_later (Some f) b is = cc
 

@@ -1,9 +1,10 @@
-//! No session is left in what a tree lowers to.
+//! What lowering leaves of forms, and what the first pass shows of sends.
 #![tactic(auto)]
 
-ghost use Rattle.lowered_forms.specs.Laws.{DesugarsToCore};
+ghost use Rattle.lowered_forms.specs.Laws.{DesugarsToCore, PassedFit};
 
-/// What holds of each tree and of its core tree. It does nothing.
+/// What holds of each tree, its core tree and its sends. It does nothing.
 pub fn laws()
-    ensures { DesugarsToCore }
+    ensures core { DesugarsToCore }
+    ensures fit { PassedFit }
 {}
