@@ -2,11 +2,11 @@
 use chan_base::{Bytes, Memory};
 use chan_lexer::tokens;
 use chan_parser::parse;
+use core_numbering::number;
 use core_programs::Program;
+use core_trees::is_core;
 use outline_check::{Checked, check};
 use outline_lines::outline_line;
-use core_numbering::number;
-use core_trees::is_core;
 use std::alloc::Global;
 use std::process::Abort;
 use std::test::Fail;
