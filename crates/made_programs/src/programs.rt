@@ -1,5 +1,5 @@
 //! The whole program.
-ghost use Rattle.std.specs.Prelude.{◌≡◌, ◌++◌, ◌≤◌, IfOk, OnOk};
+ghost use Rattle.std.specs.Prelude.{◌≡◌, ◌++◌, ◌≤◌, length, IfOk, OnOk};
 ghost use Rattle.made_programs.specs.Texts as spec;
 
 use crate::declarations::put_declarations;
@@ -91,7 +91,8 @@ fn put_answers(alloc: Global, text: &mut Vec<u8>, count: u32) -> Result<(), Memo
 /// many tasks that hand an end on, and a tree of 127 tasks.
 pub fn make_text(alloc: Global, number: u32) -> Result<Bytes, Memory>
     requires { number ≤ 5000 }
-    ensures { IfOk result (λ text. text ≡ spec.made_text number) }
+    ensures made { IfOk result (λ text. text ≡ spec.made_text number) }
+    ensures short { IfOk result (λ text. length text ≤ 1048576) }
 {
     let mut text = Vec::new(alloc);
     put_declarations(&mut text)?;
