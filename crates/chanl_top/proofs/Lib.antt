@@ -1,2 +1,3 @@
-pub mod Deciding
 pub mod OneVerdict
+pub mod Deciding
+pub mod Promising

@@ -3,12 +3,9 @@ use Rattle.std.specs.Prelude.{◌≡◌, ℕ, ◌≤◌, ◌⊎◌, List, [], le
 use Rattle.std.specs.Io.KnownBytes.{Appends}
 use Rattle.chan_base.specs.Stream.{Rose, AppendsFront}
 use Rattle.chanl_lines.specs.Lines.{read_fault, usage}
-use Rattle.chanl_words.specs.declared.Command.{Command}
-use Rattle.chanl_words.specs.declared.Command.TheVariants as command
-use Rattle.chanl_words.specs.Words.{most_rounds}
-use Rattle.chanl_top.specs.declared.status.Status.{Status}
-use Rattle.chanl_top.specs.declared.status.Status.TheVariants as status
-use Rattle.chanl_top.specs.declared.verdicts.Verdict.{Verdict}
+use Rattle.program_verdicts.specs.declared.status.Status.{Status}
+use Rattle.program_verdicts.specs.declared.status.Status.TheVariants as status
+use Rattle.program_verdicts.specs.declared.verdicts.Verdict.{Verdict}
 use Rattle.chanl_top.specs.Verdict.{longest}
 
 -- a status that the words and the bytes alone decide
@@ -22,18 +19,6 @@ IsSettled status.BadEnding = Unit {0}
 IsSettled status.ReadFault = ⊥
 IsSettled status.WriteFault = ⊥
 IsSettled status.Memory = ⊥
-
--- a status that a command on a text comes to, whatever becomes of its output
-abbrev pub IsOfText : Status → Type 0
-IsOfText status.Done = Unit {0}
-IsOfText status.TextRefused = Unit {0}
-IsOfText status.OutlineRefused = Unit {0}
-IsOfText status.Stopped = Unit {0}
-IsOfText status.BadEnding = Unit {0}
-IsOfText status.Usage = ⊥
-IsOfText status.ReadFault = ⊥
-IsOfText status.WriteFault = ⊥
-IsOfText status.Memory = ⊥
 
 -- a status that only a program that was read comes to
 abbrev pub IsOfProgram : Status → Type 0
@@ -53,7 +38,7 @@ Decides Answers left before now verdict =
     ((verdict.status ≡ status.ReadFault) × (verdict.output ≡ read_fault) × Rose before now)
     ⊎ (IsSettled verdict.status × ((bytes : List ℕ) → left ≡ Some bytes → Answers bytes verdict))
 
--- the source was read to its end, where a text of at most the greatest length was left
+-- the source was read to its end, where an input of at most the greatest length was left
 abbrev pub ReadsWhole : Option (List ℕ) → Option (List ℕ) → Status → Type 0
 ReadsWhole old new s = IsSettled s → (bytes : List ℕ) → old ≡ Some bytes → length bytes ≤ longest → new ≡ Some []
 
@@ -73,8 +58,3 @@ TellsUsage old new status.OutlineRefused = ⊥
 TellsUsage old new status.Stopped = ⊥
 TellsUsage old new status.ReadFault = ⊥
 TellsUsage old new status.BadEnding = ⊥
-
--- a replay has no more rounds than the option takes
-abbrev pub AreFew : Command → Type 0
-AreFew command.Fmt = Unit {0}
-AreFew (command.Replay rounds) = rounds ≤ most_rounds

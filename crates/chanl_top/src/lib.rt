@@ -2,15 +2,12 @@
 #![tactic(auto)]
 
 ghost use Rattle.std.specs.Prelude.{◌≡◌, ℕ, List};
-ghost use Rattle.chanl_top.specs.declared.verdicts.Verdict.{Verdict};
+ghost use Rattle.program_verdicts.specs.declared.verdicts.Verdict.{Verdict};
 ghost use Rattle.chanl_top.specs.Verdict.{IsVerdict};
 
-mod readings;
-mod status;
 mod topmost;
-mod verdicts;
 
-pub use status::Status;
+pub use program_verdicts::Status;
 pub use topmost::top;
 
 /// Words and bytes have one verdict.

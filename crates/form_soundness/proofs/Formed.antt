@@ -31,7 +31,7 @@ use Rattle.form_soundness.proofs.Heads.{KnowForks, ends_do}
 -- ---- functions
 
 -- a function that is found has no fault
-func_clean : (protos funcs : List Signature) (nodes : List Node) (fs : List Func) (x : Ident) (f : Function) → funcs_faults protos funcs nodes fs ≡ []
+pub func_clean : (protos funcs : List Signature) (nodes : List Node) (fs : List Func) (x : Ident) (f : Function) → funcs_faults protos funcs nodes fs ≡ []
     → function_named x (map (function_of nodes) fs) ≡ Some f → (g : Func) × (function_of nodes g ≡ f) × (func_faults protos funcs nodes g ≡ [])
 unfolding funcs_faults
 func_clean protos funcs nodes [] x f none is = cc
@@ -44,12 +44,12 @@ func_clean protos funcs nodes (g ∷ gs) x f none is =
     by false o again e = again e
 
 -- what a header without faults has
-record HeaderClean (protos : List Signature) (g : Func) : Type 0 where
-  shallow : params_are_shallow g.params && is_shallow g.result.shape ≡ true
-  params : params_faults protos (bound_scope [] g.bound) g.params ≡ []
-  result : res_faults protos (header_scope g.bound g.params) g.result ≡ []
+pub record HeaderClean (protos : List Signature) (g : Func) : Type 0 where
+  pub shallow : params_are_shallow g.params && is_shallow g.result.shape ≡ true
+  pub params : params_faults protos (bound_scope [] g.bound) g.params ≡ []
+  pub result : res_faults protos (header_scope g.bound g.params) g.result ≡ []
 
-header_clean : (protos : List Signature) (g : Func) → header_faults protos g.name_span g.bound g.params g.result ≡ [] → HeaderClean protos g
+pub header_clean : (protos : List Signature) (g : Func) → header_faults protos g.name_span g.bound g.params g.result ≡ [] → HeaderClean protos g
 unfolding header_faults
 header_clean protos g none =
     let is = params_are_shallow g.params && is_shallow g.result.shape in

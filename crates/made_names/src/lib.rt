@@ -4,5 +4,5 @@
 mod names;
 mod terms;
 
-pub use names::{dotted, numbered};
-pub use terms::{name_term, number_term};
+pub use names::{dotted, numbered, numbered_names};
+pub use terms::{name_term, name_terms, number_term, spans_of};

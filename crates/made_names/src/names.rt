@@ -1,9 +1,10 @@
 //! Names that no text has.
-ghost use Rattle.std.specs.Prelude.{◌≡◌, ◌++◌, OnOk, IfOk};
+ghost use Rattle.std.specs.Prelude.{◌≡◌, ◌<◌, ◌+◌, ◌^◌, ◌++◌, length, OnOk, IfOk};
 ghost use Rattle.session_lowering.specs.MadeNames as spec;
 
 use chan_base::Memory;
-use chan_syntax::Ident;
+use chan_syntax::{Ident, Idents};
+use sqlite_items::Items;
 use std::alloc::Global;
 
 fn put(bytes: &mut Vec<u8>, more: &[u8]) -> Result<(), Memory>
@@ -32,4 +33,21 @@ pub fn numbered(alloc: Global, base: &[u8], number: usize) -> Result<Ident, Memo
 {
     let digits = (number as u64).to_string(alloc)?;
     dotted(alloc, base, digits.as_bytes())
+}
+
+/// As many numbered names as there are names, from a number on.
+pub fn numbered_names(
+    alloc: Global,
+    base: &[u8],
+    first: usize,
+    names: &Idents,
+) -> Result<Idents, Memory>
+    requires { first + length names.now < 2 ^ 64 }
+    ensures { IfOk result (λ made. made ≡ spec.numbered_from base.now first names.now) }
+{
+    let mut made = Items::new(alloc);
+    for index in 0..names.len() {
+        made.push(numbered(alloc, base, first + index)?)?;
+    }
+    Ok(made)
 }

@@ -38,11 +38,11 @@ term-at at f (p ∷ ps) = one p.name (term-at at f ps)
     one (Some x) rest = omega (arith, ints, add_times-at at (times_of p) (f x) (form_of_term f ps), rest)
 
 -- what a free name is worth
-abbrev free_at : (Var → ℤ) → List Ident → Ident → ℤ
+abbrev pub free_at : (Var → ℤ) → List Ident → Ident → ℤ
 free_at at ints x = form_at at (at_place (place_of ints x) (constant_form (pos 0)) Free)
 
 -- values of named variables
-abbrev values_at : (Var → ℤ) → List Ident → named_form.Var → ℤ
+abbrev pub values_at : (Var → ℤ) → List Ident → named_form.Var → ℤ
 values_at at ints (named_form.Free x) = free_at at ints x
 values_at at ints (named_form.Inside i) = at (Inside i)
 
@@ -179,7 +179,7 @@ module _ (at : Var → ℤ) (ints : List Ident) where
             let (there, less) = place-some before (names_put put) x i q in
             ap (λ o. form_at inner (name_form o x)) there ∙ variable-at inner (Inside i) ∙ inside_low i less
 
-    put-under-at : (t : Term) → form_at at (form_with (forms_put ints put) (length before) (nameless_term ints (before ++ names_put put) t)) ≡ sum_under before put (pos 1) (values_at at ints) t
+    pub put-under-at : (t : Term) → form_at at (form_with (forms_put ints put) (length before) (nameless_term ints (before ++ names_put put) t)) ≡ sum_under before put (pos 1) (values_at at ints) t
     put-under-at t =
         put-at at (instance_for (forms_put ints put) (length before)) (nameless_term ints (before ++ names_put put) t)
         ∙ term-at inner (nameless.named_form ints (before ++ names_put put)) t

@@ -1,5 +1,5 @@
 -- Calls and forks fit the uses of their task.
-use Rattle.standing_contexts.specs.Places.{Agree, BodyAt, Owed, Pays, PlaceAt, StackAt, Standing, names_of_env}
+use Rattle.standing_contexts.specs.Places.{Agree, BodyAt, HoldsNamed, Owed, Pays, PlaceAt, StackAt, Standing, names_of_env}
 use Rattle.std.proofs.Common.{◌≡◌, ℕ, zero, suc, ◌+◌, ◌≤◌, ◌<◌, ℤ, pos, negsuc, neg_ℤ, ◌+ℤ◌, ◌-ℤ◌, ◌*ℤ◌, ◌≤ℤ◌, int_le, Bool, true, false, not, ◌||◌, ◌&&◌, if◌then◌else◌, List, [], ◌∷◌, ◌++◌, map, length, append-nil, Option, Some, None, Result, Ok, Err, refl, ap, sym, subst, ◌∙◌, arith}
 use Rattle.std.proofs.lemmas.Int.{ints}
 use Rattle.core_language.specs.Names.{Name, Ident, same}
@@ -31,6 +31,9 @@ use Rattle.good_configurations.specs.Ends as ends
 use Rattle.good_configurations.specs.Values.{Use, KeepsAll, Has, HasShape}
 use Rattle.good_configurations.specs.Uses.{AreSame}
 use Rattle.good_configurations.specs.Acts.{Stands, Fits}
+use Rattle.named_entries.specs.Entries.{IsThere}
+use Rattle.named_entries.proofs.Taking.{bind_was}
+use Rattle.named_entries.proofs.Bodies.{named_there}
 use Rattle.outline_values.specs.Proper.{HasEntries, ProperForms, ProperRes, ProperShape, nest_res}
 use Rattle.outline_values.specs.Formed.{deepest, NamesAre, SuppliesNames, NamesBound, FunctionFormed, IsFormed}
 use Rattle.outline_values.proofs.Answers.{one_ok, err_ok, and_then-ok, provided-ok, or_why-ok, one_some, none_some}
@@ -152,7 +155,7 @@ module _ (P : Program) (outlined : IsOutlined P) (formed : IsFormed P) (p : Name
               (goes_on P (c.g.body) (params_env (c.g.params) (c.args)) (params_env (c.g.params) (c.args)) (frame ∷ callers) promise us (c.vs) (c.rest ++ ws)
               (λ q. omega (arith, split q, alike q, c.split q, count-append q vs ws, count-append q (c.vs) (c.rest), count-append q (c.vs) (c.rest ++ ws), count-append q (c.rest) ws)) (λ y e. refl)
               (entered-typed (P.protos) (c.g) (formed.functions f (c.g) (c.found)) w (c.js) (c.count) P refl (function_out f (c.g) (c.found)) promise paid (c.kept) (c.args) (c.vs) (c.shapes))
-              (F, owed, c.rest, ws, (λ q. refl), (λ y e. kept-value next env y e ∙ agree y (either_right (in_supplies y values) (names next y) e)), goes, stack))
+              (F, owed, c.rest, ws, (λ q. refl), (λ y e. kept-value next env y e ∙ agree y (either_right (in_supplies y values) (names next y) e)), holds, goes, stack))
             where
               frame : Caller
               frame = record { name = pat.name; rest = next; env = kept next env }
@@ -162,6 +165,9 @@ module _ (P : Program) (outlined : IsOutlined P) (formed : IsFormed P) (p : Name
 
               paid : (v : Value) (us : List Use) → Has (integer_at ks) (c.js) (result_of (c.g)) v us → Has (integer_at (c.js)) [] (own_result (c.g)) v us
               paid v us h = own-back (P.protos) (c.g) (formed.functions f (c.g) (c.found)) (integer_at ks) (c.js) (c.count) v us h
+
+              holds : HoldsNamed P next F (c.rest)
+              holds = (length (ctx.ints), w, c.es, c.stays, λ x named. subst (λ (z : Context). IsThere (z.entries) x) (c.context) (bind_was (call.context) pat (call.result) after e₂ x (named_there P own after next out x named)))
 
               goes : (v : Value) (paid : List Use) → Has (integer_at (c.js)) [] (own_result (c.g)) v paid → BodyAt P owed next (bound F (pat.name) v) (paid ++ c.rest)
               goes v paid h = last (bind-typed (P.protos) owed own (call.context) ks F (c.rest) standing pat (call.result) (subst (λ z. ProperRes (P.protos) (length (z.ints)) 0 (call.result)) (sym (c.context)) (c.result_proper)) v paid (c.result_has v paid (own-result (P.protos) (c.g) (formed.functions f (c.g) (c.found)) (integer_at ks) (c.js) (c.count) v paid h)) after e₂)

@@ -123,5 +123,5 @@ module _ (P : Program) (p : Name) (k : ℕ) (env : Env) (callers : List Caller) 
 
               returns : (cs : List Caller) → StackAt P cs owed ws → Fits (P.protos) (PlaceAt P) p k (returned cs v) us
               returns [] (none, pays) = none_same us (λ q. omega (arith, split q, all_used q, count-append q vs ws, ap (count q) none, ap (count q) (pays v used (s.pays v used typed))))
-              returns (c ∷ cs) (G, next, vs', ws', split', agree', goes, stack') =
+              returns (c ∷ cs) (G, next, vs', ws', split', agree', holds, goes, stack') =
                   goes_on P (c.rest) (bound (c.env) (c.name) v) (bound G (c.name) v) cs next us (used ++ vs') ws' (λ q. omega (arith, split q, all_used q, split' q, count-append q vs ws, count-append q vs' ws', count-append q (used ++ vs') ws', count-append q used vs')) (λ y e. bound-value (c.env) G (c.name) v y (agree' y e)) (goes v used (s.pays v used typed)) stack'

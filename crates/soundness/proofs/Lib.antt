@@ -1,2 +1,2 @@
-mod Commutes
+pub mod Commutes
 mod Example

@@ -11,12 +11,13 @@ use Rattle.core_language.specs.Acts.{bound}
 use Rattle.farkas_check.specs.declared.cert.Row.{Row}
 use Rattle.farkas_check.specs.Rows.{value_at}
 use Rattle.outline_language.specs.Nameless.{Res}
-use Rattle.outline_language.specs.Contexts.{Context}
+use Rattle.outline_language.specs.Contexts.{Entry, Context}
 use Rattle.outline_language.specs.Outlined.{OutlinedBody}
 use Rattle.good_configurations.specs.Ends.{integer_at}
 use Rattle.good_configurations.specs.Values.{Use, Has}
 use Rattle.good_configurations.specs.Uses.{AreSame}
 use Rattle.good_configurations.specs.Acts.{Typing}
+use Rattle.named_entries.specs.Entries.{IsThere}
 use Rattle.outline_values.specs.Formed.{deepest, NamesBound}
 use Rattle.outline_values.specs.Proper.{ProperRes, nest_res, HasEntries}
 
@@ -53,11 +54,16 @@ BodyAt P owed body F us =
     (own : Res) × (ctx : Context) × (ks : List ℤ) × (vs : List Use) × OutlinedBody P own ctx body × NamesBound P.protos (names_of_env F) body
     × AreSame us vs × Standing P.protos owed own ctx ks F vs
 
--- what is owed lets the callers go on; without callers it uses no end
+-- the frame has the values of entries that use just these ends, and what the body names is still there
+abbrev pub HoldsNamed : Program → Body → Env → List Use → Type 0
+HoldsNamed P rest F us =
+    (n : ℕ) × (w : ℕ → ℤ) × (es : List Entry) × HasEntries P.protos n w F es us × ((x : Ident) → names rest x ≡ true → IsThere es x)
+
+-- what is owed lets the callers go on, whose frames have the ends that are left; without callers it uses no end
 abbrev pub StackAt : Program → List Caller → Owed → List Use → Type 0
 StackAt P [] owed us = (us ≡ []) × ((v : Value) (vs : List Use) → Pays owed v vs → vs ≡ [])
 StackAt P (c ∷ callers) owed us =
-    (F : Env) × (next : Owed) × (vs ws : List Use) × AreSame us (vs ++ ws) × Agree (names c.rest) c.env F
+    (F : Env) × (next : Owed) × (vs ws : List Use) × AreSame us (vs ++ ws) × Agree (names c.rest) c.env F × HoldsNamed P c.rest F vs
     × ((v : Value) (paid : List Use) → Pays owed v paid → BodyAt P next c.rest (bound F c.name v) (paid ++ vs)) × StackAt P callers next ws
 
 abbrev pub PlaceAt : Program → Typing

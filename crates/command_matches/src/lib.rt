@@ -1,0 +1,7 @@
+//! Commands, with their words read by `clap`.
+#![tactic(auto)]
+
+mod commands;
+mod matching;
+
+pub use commands::command;

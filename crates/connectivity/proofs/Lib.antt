@@ -1,0 +1,4 @@
+pub mod Held
+pub mod Counted
+pub mod Places
+pub mod Items

@@ -1,0 +1,3 @@
+pub mod Formed
+pub mod Undotted
+pub mod Texts

@@ -1,0 +1,4 @@
+pub mod Merging
+pub mod Keeping
+pub mod Channels
+pub mod Making

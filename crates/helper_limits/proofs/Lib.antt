@@ -1,0 +1,4 @@
+pub mod WaySteps
+pub mod MoreTerms
+pub mod Rows
+pub mod Asking

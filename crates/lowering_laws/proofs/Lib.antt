@@ -1,0 +1,14 @@
+pub mod Both
+pub mod Names
+pub mod PutNames
+pub mod PutForms
+pub mod Asks
+pub mod Itself
+pub mod Rebound
+pub mod Fits
+pub mod Ends
+pub mod Ways
+pub mod Messages
+pub mod Paths
+pub mod Whole
+pub mod Texts

@@ -1,0 +1,4 @@
+pub mod Taking
+mod Giving
+mod Rules
+pub mod Bodies

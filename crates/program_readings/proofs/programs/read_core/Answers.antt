@@ -1,0 +1,9 @@
+use Rattle.std.proofs.Common.{subst}
+use Rattle.program_readings.specs.Readings.{IsReading}
+use Rattle.program_readings.proofs.OneReading.{says_core_reading}
+use Rattle.program_readings.proofs.programs.read_core.Goals as goal
+
+pub returns-in_ok-core-in-Tree : goal.returns-in_ok-core-in-Tree
+returns-in_ok-core-in-Tree c =
+    let reads = subst (IsReading c.args.text.now) c.in-Tree.is c.in_ok-tree.ensures in
+    says_core_reading c.args.text.now c.in-Tree.tree c.in_ok-core-in-Tree.core reads c.in_ok-core-in-Tree.ensures

@@ -1,0 +1,4 @@
+pub mod Lowered
+pub mod Programs
+pub mod Readings
+pub mod Laws

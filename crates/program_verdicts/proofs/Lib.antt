@@ -1,0 +1,4 @@
+pub mod Few
+pub mod Writing
+pub mod OneVerdict
+pub mod Promising

@@ -1,0 +1,4 @@
+pub mod Normals
+pub mod Placing
+pub mod Exact
+pub mod Pairs

@@ -1,0 +1,4 @@
+pub mod NarrowShapes
+pub mod RenamedForms
+pub mod Renaming
+pub mod Gathering

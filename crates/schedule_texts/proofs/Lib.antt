@@ -1,0 +1,4 @@
+pub mod Cutting
+pub mod Passing
+pub mod Reading
+pub mod Alone

@@ -1,0 +1,4 @@
+pub mod Lines
+pub mod Schedules
+pub mod Marks
+pub mod Lists

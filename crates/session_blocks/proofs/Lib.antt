@@ -1,0 +1,4 @@
+pub mod CoreBlocks
+pub mod MadeFuncs
+pub mod FitBlocks
+pub mod BitBlocks

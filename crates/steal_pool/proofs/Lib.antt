@@ -1,0 +1,2 @@
+pub mod EndingWell
+pub mod Ordered

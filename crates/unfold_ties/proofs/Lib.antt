@@ -1,0 +1,5 @@
+pub mod Terms
+pub mod Rows
+pub mod Resources
+pub mod Letters
+pub mod Messages
