@@ -60,7 +60,11 @@ fn event_fault(
 }
 
 /// Of the first statement that has a fault the one that stands first.
-pub fn first_pass(alloc: Global, sources: &SourceTable, events: &[Event]) -> Result<Option<Ill>, Memory>
+pub fn first_pass(
+    alloc: Global,
+    sources: &SourceTable,
+    events: &[Event],
+) -> Result<Option<Ill>, Memory>
     ensures { IfOk result (λ fault. fault ≡ spec.first_pass sources.now events.now) }
 {
     let mut names = BTreeSet::new(alloc);
