@@ -8,4 +8,4 @@ use Rattle.program_verdicts.proofs.texts.made.Goals as goal
 pub returns : goal.returns
 returns c =
     subst (λ text. IsProgramVerdict (IsAnswer (asked.Made c.args.options)) text c.in_ok-verdict.verdict)
-    (c.as_slice.ensures ∙ c.in_ok-text.ensures.text ∙ ap made_text c.narrow.ensures) c.in_ok-verdict.ensures
+    (c.as_slice.ensures ∙ c.in_ok-text.ensures.made ∙ ap made_text c.narrow.ensures) c.in_ok-verdict.ensures
